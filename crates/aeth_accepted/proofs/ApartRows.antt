@@ -4,8 +4,7 @@ use Rattle.std.proofs.lemmas.Option.{same_Some}
 use Rattle.aeth_group.specs.Members.{group_at, groups_of}
 use Rattle.aeth_ni.specs.declared.row.ChannelRow.{ChannelRow}
 use Rattle.aeth_reconf.specs.Windows.{AreAllApart}
-use Rattle.aeth_tables.specs.Tables.{tables_of}
-use Rattle.aeth_tables.proofs.ListLaws.{place_in}
+use Rattle.aeth_tables.{specs.Tables.tables_of, proofs.ListLaws.place_in}
 use Rattle.aeth_accepted.specs.Inputs.{AreAccepted, Inputs, design_of, row_at}
 use Rattle.aeth_accepted.proofs.SessionRows.{is_row, promised}
 

@@ -1,25 +1,20 @@
 -- The grants of a design are those of the connections of its use cases.
-use Rattle.std.proofs.Common.{◌≡◌, ◌∙◌, ◌<◌, ℕ, Bool, true, false, Option, Some, None}
-use Rattle.std.proofs.Common.{Contains, slice_get, length, refl, sym, ap, inl, inr, arith}
-use Rattle.std.specs.Prelude.{map, unwrap_or}
+use Rattle.std.proofs.Common.{◌≡◌, ◌∙◌, ◌<◌, ℕ, Bool, true, false, Option, Some, None, Contains}
+use Rattle.std.proofs.Common.{slice_get, length, refl, sym, ap, inl, inr, arith, map, unwrap_or}
+use Rattle.std.proofs.lemmas.{Bool.cases_lt, Bool.false≢true, List.FromFn.length-map-range_with_len}
+use Rattle.std.proofs.lemmas.{Option.get_or_from_slice_get, Option.slice_get_past}
 use Rattle.std.specs.List.{range_with_len}
-use Rattle.std.proofs.lemmas.Bool.{cases_lt, false≢true}
-use Rattle.std.proofs.lemmas.List.FromFn.{length-map-range_with_len}
-use Rattle.std.proofs.lemmas.Option.{get_or_from_slice_get, slice_get_past}
 use Rattle.aeth_base.specs.declared.ids.Channel.{Channel}
-use Rattle.aeth_base.specs.declared.ids.Side.{Side}
-use Rattle.aeth_base.specs.declared.ids.Side.TheVariants.{Back, Fwd}
-use Rattle.aeth_base.proofs.Members.{Contains-filter, map-Contains}
-use Rattle.aeth_base.proofs.Ranges.{Contains-range}
+use Rattle.aeth_base.specs.declared.ids.Side.{Side, TheVariants.Back, TheVariants.Fwd}
+use Rattle.aeth_base.proofs.{Members.Contains-filter, Members.map-Contains, Ranges.Contains-range}
 use Rattle.aeth_app.specs.App.{AppData, has_connection, is_marked}
 use Rattle.aeth_group.specs.Members.{UseGroupData, group_at, groups_of, has_at, use_group, use_has}
 use Rattle.aeth_group.specs.declared.grant.Grant.{Grant}
 use Rattle.aeth_group.proofs.MemberLemmas.{connections-groups_of, length-groups_of}
 use Rattle.aeth_report.specs.Design.{connection_at, grant_at, no_connection, no_grant}
 use Rattle.aeth_tables.specs.Granted.{Granted, grant_of, grant_on, granted_in, unit_in}
-use Rattle.aeth_tables.proofs.ListLaws.{has_place}
-use Rattle.aeth_tables.proofs.ReservedLaws.{IsMade}
-use Rattle.aeth_tables.proofs.UseLaws.{conns_of, made_in}
+use Rattle.aeth_tables.proofs.{ListLaws.has_place, ReservedLaws.IsMade, UseLaws.conns_of}
+use Rattle.aeth_tables.proofs.{UseLaws.made_in}
 use Rattle.aeth_accepted.specs.Inputs.{AreAccepted, Inputs, design_of}
 
 -- The grant that is found is the design's.

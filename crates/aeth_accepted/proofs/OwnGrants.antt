@@ -1,21 +1,17 @@
 -- Each grant of a plan is the one that its design has for its channel in its group.
-use Rattle.std.proofs.Common.{◌≡◌, ◌∙◌, ◌<◌, ℕ, true, Some, Contains, slice_get, refl}
-use Rattle.std.proofs.Common.{sym, ap, inl, inr, arith, ◌&&◌, eqb, Option}
-use Rattle.std.specs.Prelude.{unwrap_or}
-use Rattle.std.proofs.lemmas.Bool.{and_from, cases_lt, eq-eqb}
+use Rattle.std.proofs.Common.{◌≡◌, ◌∙◌, ◌<◌, ℕ, true, Some, Contains, slice_get, refl, sym, ap, inl}
+use Rattle.std.proofs.Common.{inr, arith, ◌&&◌, eqb, Option, unwrap_or, eq-eqb}
+use Rattle.std.proofs.lemmas.Bool.{and_from, cases_lt}
 use Rattle.std.proofs.lemmas.Option.{get_or_from_slice_get, same_Some, slice_get_within}
-use Rattle.aeth_base.specs.Sides.{same_side}
-use Rattle.aeth_base.specs.declared.ids.Channel.{Channel}
+use Rattle.aeth_base.specs.{Sides.same_side, declared.ids.Channel.Channel}
 use Rattle.aeth_base.proofs.SideLemmas.{same_side-itself}
 use Rattle.aeth_chip.specs.Chip.{ChipData}
 use Rattle.aeth_app.specs.App.{AppData}
 use Rattle.aeth_group.specs.declared.grant.Grant.{Grant}
-use Rattle.aeth_plan.specs.Plan.{IsPlan, PlanData}
-use Rattle.aeth_plan.proofs.MadePlans.{grants_apart}
+use Rattle.aeth_plan.{specs.Plan.IsPlan, specs.Plan.PlanData, proofs.MadePlans.grants_apart}
 use Rattle.aeth_report.specs.Design.{grant_at, is_for, no_grant}
 use Rattle.aeth_report.proofs.GrantLemmas.{grant-for}
-use Rattle.aeth_tables.proofs.FindLaws.{found_is, found_some}
-use Rattle.aeth_tables.proofs.ListLaws.{place_in}
+use Rattle.aeth_tables.proofs.{FindLaws.found_is, FindLaws.found_some, ListLaws.place_in}
 use Rattle.aeth_accepted.specs.Inputs.{design_on}
 
 module _ (plan : PlanData) (is : IsPlan plan) where

@@ -1,16 +1,12 @@
 -- An admissible path has no link twice: its links end at distinct nodes.
 use Rattle.std.proofs.Common.{◌≡◌, ◌∙◌, ◌++◌, ℕ, zero, suc, List, [], ◌∷◌, Some, Contains, map}
-use Rattle.std.proofs.Common.{slice_get, refl, sym, ap}
-use Rattle.std.specs.Prelude.{option_map}
+use Rattle.std.proofs.Common.{slice_get, refl, sym, ap, option_map}
 use Rattle.std.proofs.lemmas.Option.{none-some, same_Some, slice_get-map}
-use Rattle.aeth_base.specs.declared.ids.LinkId.{LinkId}
-use Rattle.aeth_base.specs.declared.ids.NiId.{NiId}
-use Rattle.aeth_base.specs.declared.ids.RouterId.{RouterId}
+use Rattle.aeth_base.specs.declared.ids.{LinkId.LinkId, NiId.NiId, RouterId.RouterId}
 use Rattle.aeth_base.proofs.Members.{Contains-here, Contains-there}
 use Rattle.aeth_chip.specs.Paths.{AreDistinct, IsAdmissible, to_of}
 use Rattle.aeth_chip.specs.declared.node.Link.{Link}
-use Rattle.aeth_chip.specs.declared.node.Node.{Node}
-use Rattle.aeth_chip.specs.declared.node.Node.TheVariants.{Ni, Router}
+use Rattle.aeth_chip.specs.declared.node.Node.{Node, TheVariants.Ni, TheVariants.Router}
 
 -- The nodes of a path behind its first one: routers, and then an interface.
 abbrev nodes_of : List RouterId → NiId → List Node

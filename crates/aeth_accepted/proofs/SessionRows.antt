@@ -1,18 +1,14 @@
 -- The rows of channels in use cases, by an accepted plan: they are among those of the tables.
 use Rattle.std.proofs.Common.{◌≡◌, ◌∙◌, ◌<◌, ℕ, List, true, Contains, length, sym, ap, subst, arith}
-use Rattle.aeth_base.specs.declared.ids.Channel.{Channel}
-use Rattle.aeth_base.specs.declared.ids.Side.{Side}
+use Rattle.aeth_base.specs.declared.ids.{Channel.Channel, Side.Side}
 use Rattle.aeth_base.proofs.Members.{Contains-map}
 use Rattle.aeth_group.specs.Members.{group_at, groups_of, has_at}
 use Rattle.aeth_group.proofs.MemberLemmas.{connections-groups_of}
 use Rattle.aeth_ni.specs.declared.row.ChannelRow.{ChannelRow}
-use Rattle.aeth_reconf.proofs.WindowLemmas.{channels_that-has}
-use Rattle.aeth_reconf.specs.Rows.{channels_that}
-use Rattle.aeth_tables.specs.Promises.{KeepPromises}
-use Rattle.aeth_tables.specs.Reserved.{IsReserved}
-use Rattle.aeth_tables.specs.Tables.{row_on, tables_of}
-use Rattle.aeth_tables.proofs.PromiseLaws.{keep_promises}
-use Rattle.aeth_tables.proofs.UseLaws.{is_reserved}
+use Rattle.aeth_reconf.{proofs.WindowLemmas.channels_that-has, specs.Rows.channels_that}
+use Rattle.aeth_tables.specs.{Promises.KeepPromises, Reserved.IsReserved, Tables.row_on}
+use Rattle.aeth_tables.specs.{Tables.tables_of}
+use Rattle.aeth_tables.proofs.{PromiseLaws.keep_promises, UseLaws.is_reserved}
 use Rattle.aeth_accepted.specs.Inputs.{AreAccepted, Inputs, design_of, row_at}
 use Rattle.aeth_accepted.proofs.GivenGrants.{IsGivenIn, connection-known, given_in, use-known}
 use Rattle.aeth_accepted.proofs.TableFlows.{row-same, rows-of_tables}

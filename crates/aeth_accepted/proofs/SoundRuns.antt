@@ -1,36 +1,27 @@
 -- The run of accepted inputs is sound.
-use Rattle.std.proofs.Common.{◌≡◌, ◌<◌, ◌≤◌, ℕ, true, not, List, [], ◌∷◌, All}
-use Rattle.std.proofs.Common.{Contains, Some, slice_get, length, sym, ap, subst, inl, inr}
-use Rattle.std.proofs.Common.{arith}
+use Rattle.std.proofs.Common.{◌≡◌, ◌<◌, ◌≤◌, ℕ, true, not, List, [], ◌∷◌, All, Contains, Some}
+use Rattle.std.proofs.Common.{slice_get, length, sym, ap, subst, inl, inr, arith}
 use Rattle.std.proofs.lemmas.Bool.{and_parts}
-use Rattle.aeth_base.specs.declared.ids.Channel.{Channel}
-use Rattle.aeth_base.specs.declared.ids.LinkId.{LinkId}
-use Rattle.aeth_base.specs.declared.ids.Side.{Side}
-use Rattle.aeth_base.specs.declared.ids.Side.TheVariants.{Back, Fwd}
-use Rattle.aeth_base.proofs.Members.{Contains-cases, Contains-filter, Contains-flat_map, Contains-here}
-use Rattle.aeth_base.proofs.Members.{Contains-nil, Contains-there}
+use Rattle.aeth_base.specs.declared.ids.{Channel.Channel, LinkId.LinkId, Side.Side}
+use Rattle.aeth_base.specs.declared.ids.{Side.TheVariants.Back, Side.TheVariants.Fwd}
+use Rattle.aeth_base.proofs.Members.{Contains-cases, Contains-filter, Contains-flat_map}
+use Rattle.aeth_base.proofs.Members.{Contains-here, Contains-nil, Contains-there}
 use Rattle.aeth_slots.specs.SlotSet.{greatest}
 use Rattle.aeth_chip.specs.Paths.{path_delay}
-use Rattle.aeth_group.specs.Conflict.{Conflict}
-use Rattle.aeth_group.specs.Members.{group_at, groups_of, has_at, is_kept}
-use Rattle.aeth_group.specs.declared.grant.Grant.{Grant}
+use Rattle.aeth_group.specs.{Conflict.Conflict, Members.group_at, Members.groups_of, Members.has_at}
+use Rattle.aeth_group.specs.{Members.is_kept, declared.grant.Grant.Grant}
 use Rattle.aeth_group.proofs.ConflictLemmas.{conflict-sym}
 use Rattle.aeth_group.proofs.MemberLemmas.{connections-groups_of, length-groups_of}
 use Rattle.aeth_plan.specs.Plan.{IsGrantOf}
-use Rattle.aeth_trace.specs.Spans.{span_of}
-use Rattle.aeth_trace.specs.declared.switches.SwitchRow.{SwitchRow}
-use Rattle.aeth_report.specs.Design.{grant_at}
-use Rattle.aeth_report.specs.Sessions.{closes}
-use Rattle.aeth_report.specs.Sound.{AreGranted, HasDelay, IsSound, IsWithinLimits}
+use Rattle.aeth_trace.specs.{Spans.span_of, declared.switches.SwitchRow.SwitchRow}
+use Rattle.aeth_report.specs.{Design.grant_at, Sessions.closes, Sound.AreGranted, Sound.HasDelay}
+use Rattle.aeth_report.specs.{Sound.IsSound, Sound.IsWithinLimits}
 use Rattle.aeth_tables.specs.Granted.{Granted, grant_on, granted_in}
 use Rattle.aeth_tables.specs.Switching.{changing, delays_in, lag_of, writes_of}
-use Rattle.aeth_tables.proofs.ApartLaws.{one_item}
-use Rattle.aeth_tables.proofs.ListLaws.{all_has_by}
-use Rattle.aeth_tables.proofs.ShapeRanges.{shape_in_range}
-use Rattle.aeth_tables.proofs.UseLaws.{is_reserved}
+use Rattle.aeth_tables.proofs.{ApartLaws.one_item, ListLaws.all_has_by, ShapeRanges.shape_in_range}
+use Rattle.aeth_tables.proofs.{UseLaws.is_reserved}
 use Rattle.aeth_accepted.specs.Inputs.{AreAccepted, Inputs, design_of, run_of}
-use Rattle.aeth_accepted.proofs.GivenGrants.{given_in, use-known}
-use Rattle.aeth_accepted.proofs.PathPlaces.{links-once}
+use Rattle.aeth_accepted.proofs.{GivenGrants.given_in, GivenGrants.use-known, PathPlaces.links-once}
 
 -- No number of a list is above the greatest.
 pub greatest-above : (xs : List ℕ) (x : ℕ) → Contains xs x → x ≤ greatest xs

@@ -1,60 +1,45 @@
 -- The flow of a session is what the tables of its use case say.
 use Rattle.std.proofs.Common.{◌≡◌, ◌∙◌, ◌<◌, ◌+◌, ◌*◌, ℕ, List, Option, Some, None, Contains}
 use Rattle.std.proofs.Common.{slice_get, length, drop, refl, sym, ap, subst, arith, eqb, [], ◌∷◌}
-use Rattle.std.proofs.Common.{All, filter}
-use Rattle.std.specs.Prelude.{flat_map, map, option_and_then, position, unwrap_or}
+use Rattle.std.proofs.Common.{All, filter, flat_map, map, option_and_then, position, unwrap_or}
+use Rattle.std.proofs.Common.{map-id}
+use Rattle.std.proofs.lemmas.List.{Concat.flat_map-cons, Elements.All-head, Elements.All-tail}
 use Rattle.std.specs.List.{filter_map, range_with_len}
-use Rattle.std.proofs.lemmas.List.{map-id}
-use Rattle.std.proofs.lemmas.List.Concat.{flat_map-cons}
-use Rattle.std.proofs.lemmas.List.Elements.{All-head, All-tail}
 use Rattle.aeth_base.specs.Limits.{words_per_flit}
-use Rattle.aeth_base.specs.declared.ids.Channel.{Channel}
-use Rattle.aeth_base.specs.declared.ids.ConnId.{ConnId}
-use Rattle.aeth_base.specs.declared.ids.CoreId.{CoreId}
-use Rattle.aeth_base.specs.declared.ids.LinkId.{LinkId}
-use Rattle.aeth_base.specs.declared.ids.RouterId.{RouterId}
-use Rattle.aeth_base.specs.declared.ids.Side.{Side}
-use Rattle.aeth_base.specs.declared.ids.Side.TheVariants.{Back, Fwd}
-use Rattle.aeth_base.specs.declared.ids.UseId.{UseId}
+use Rattle.aeth_base.specs.declared.ids.{Channel.Channel, ConnId.ConnId, CoreId.CoreId}
+use Rattle.aeth_base.specs.declared.ids.{LinkId.LinkId, RouterId.RouterId, Side.Side}
+use Rattle.aeth_base.specs.declared.ids.{Side.TheVariants.Back, Side.TheVariants.Fwd, UseId.UseId}
+use Rattle.aeth_base.specs.Sides.{channels_with, other_side}
 use Rattle.aeth_base.proofs.Members.{Contains-filter_map, filter-Contains}
 use Rattle.aeth_slots.specs.SlotSet.{Ascends}
-use Rattle.aeth_server.specs.ChannelShape.{shape_of}
-use Rattle.aeth_server.specs.Shape.{IsGranted, Shape, buffer_of}
-use Rattle.aeth_chip.specs.Chip.{ChipData, IsChip}
-use Rattle.aeth_chip.specs.Nodes.{begins_at, sender_of, sends_on}
-use Rattle.aeth_chip.specs.Paths.{path_delay}
-use Rattle.aeth_chip.specs.declared.node.Node.TheVariants.{Router}
+use Rattle.aeth_server.specs.{ChannelShape.shape_of, Shape.IsGranted, Shape.Shape, Shape.buffer_of}
+use Rattle.aeth_chip.specs.{Chip.ChipData, Chip.IsChip, Nodes.begins_at, Nodes.sender_of}
+use Rattle.aeth_chip.specs.{Nodes.sends_on, Paths.path_delay, declared.node.Node.TheVariants.Router}
 use Rattle.aeth_chip.proofs.NodeLemmas.{numbers_from-once}
 use Rattle.aeth_router.proofs.LinkLemmas.{position-at}
-use Rattle.aeth_app.specs.App.{position_of, wish_of}
-use Rattle.aeth_app.specs.Limits.{max_core_connections}
-use Rattle.aeth_app.specs.Rates.{need_of}
-use Rattle.aeth_app.specs.declared.connection.Connection.{Connection}
-use Rattle.aeth_app.specs.Connections.{receiver as receiving_core, sender as sending_core}
+use Rattle.aeth_app.specs.{App.position_of, App.wish_of, Limits.max_core_connections, Rates.need_of}
+use Rattle.aeth_app.specs.{declared.connection.Connection.Connection}
+use Rattle.aeth_app.specs.{Connections.receiver as receiving_core}
+use Rattle.aeth_app.specs.{Connections.sender as sending_core}
 use Rattle.aeth_group.specs.Members.{group_at, groups_of, has_at}
-use Rattle.aeth_group.specs.declared.grant.Grant.{Grant}
-use Rattle.aeth_group.specs.declared.grant.SeatLine.{SeatLine}
+use Rattle.aeth_group.specs.declared.grant.{Grant.Grant, SeatLine.SeatLine}
 use Rattle.aeth_header.specs.Route.{route_of}
-use Rattle.aeth_report.specs.declared.session.Session.{Session}
-use Rattle.aeth_reconf.specs.Rows.{channels_that, rows_that}
-use Rattle.aeth_base.specs.Sides.{channels_with, other_side}
-use Rattle.aeth_report.specs.Channels.{opposite}
-use Rattle.aeth_report.specs.Channels.{receiver, sender}
-use Rattle.aeth_report.specs.Design.{grant_at, queue_at, remote_at, seat_at, shape_at}
-use Rattle.aeth_report.specs.Flows.{server_of, sessions_in}
-use Rattle.aeth_report.specs.Sound.{IsSound}
+use Rattle.aeth_report.specs.{declared.session.Session.Session, Channels.opposite}
+use Rattle.aeth_report.specs.{Channels.receiver, Channels.sender, Design.grant_at, Design.queue_at}
+use Rattle.aeth_report.specs.{Design.remote_at, Design.seat_at, Design.shape_at, Flows.server_of}
+use Rattle.aeth_report.specs.{Flows.sessions_in, Sound.IsSound, Routes.port_of as port_named}
+use Rattle.aeth_report.specs.{Routes.route_along as route_named}
 use Rattle.aeth_report.proofs.ClosingLemmas.{stay_of}
-use Rattle.aeth_report.specs.Routes.{port_of as port_named, route_along as route_named}
+use Rattle.aeth_reconf.specs.Rows.{channels_that, rows_that}
 use Rattle.aeth_tables.specs.Granted.{Granted, grant_on, granted_in, granted_of, line_of}
 use Rattle.aeth_tables.specs.Granted.{receiving_seat, sending_seat}
 use Rattle.aeth_tables.specs.Reserved.{IsReserved}
 use Rattle.aeth_tables.specs.Routes.{port_from, port_of, route_along}
 use Rattle.aeth_tables.specs.Tables.{queue_at as queue_on, row_on, shape_on, tables_of}
-use Rattle.aeth_tables.proofs.ListLaws.{all_from_places, has_place}
-use Rattle.aeth_tables.proofs.PortLaws.{at_port}
-use Rattle.aeth_tables.proofs.ReservedLaws.{IsMade, made_of}
-use Rattle.aeth_tables.proofs.ShapeRanges.{shape_in_range}
-use Rattle.aeth_tables.proofs.UseLaws.{is_reserved, made_in, there}
+use Rattle.aeth_tables.proofs.{ListLaws.all_from_places, ListLaws.has_place, PortLaws.at_port}
+use Rattle.aeth_tables.proofs.{ReservedLaws.IsMade, ReservedLaws.made_of}
+use Rattle.aeth_tables.proofs.{ShapeRanges.shape_in_range, UseLaws.is_reserved, UseLaws.made_in}
+use Rattle.aeth_tables.proofs.{UseLaws.there}
 use Rattle.aeth_accepted.specs.Inputs.{AreAccepted, Inputs, design_of, row_at, run_of}
 use Rattle.aeth_accepted.proofs.GivenGrants.{IsGiven, connection-known, given_from_made, given_in}
 use Rattle.aeth_accepted.proofs.GivenGrants.{use-known}

@@ -1,24 +1,17 @@
 -- The slots of each session's channel are suitable for what the channel wishes.
 use Rattle.std.proofs.Common.{◌≡◌, ◌∙◌, ℕ, ◌+◌, ◌-◌, Contains, sym, ap, subst}
-use Rattle.aeth_base.specs.declared.ids.Channel.{Channel}
-use Rattle.aeth_base.specs.declared.ids.UseId.{UseId}
+use Rattle.aeth_base.specs.declared.ids.{Channel.Channel, UseId.UseId}
 use Rattle.aeth_slots.specs.Choice.{IsSuitable}
-use Rattle.aeth_app.specs.App.{wish_of}
-use Rattle.aeth_app.specs.Rates.{need_of}
-use Rattle.aeth_app.specs.declared.connection.Connection.{Connection}
+use Rattle.aeth_app.specs.{App.wish_of, Rates.need_of, declared.connection.Connection.Connection}
 use Rattle.aeth_group.specs.Members.{group_at, groups_of}
-use Rattle.aeth_server.specs.Landing.{WaitsAlone}
-use Rattle.aeth_server.specs.Shape.{Shape}
-use Rattle.aeth_report.specs.declared.session.Session.{Session}
-use Rattle.aeth_report.specs.Design.{connection_at, shape_at}
-use Rattle.aeth_report.specs.Flows.{server_of, sessions_in}
-use Rattle.aeth_report.specs.Sound.{IsSound}
+use Rattle.aeth_server.specs.{Landing.WaitsAlone, Shape.Shape}
+use Rattle.aeth_report.specs.{declared.session.Session.Session, Design.connection_at}
+use Rattle.aeth_report.specs.{Design.shape_at, Flows.server_of, Flows.sessions_in, Sound.IsSound}
 use Rattle.aeth_report.proofs.ClosingLemmas.{stay_of}
 use Rattle.aeth_tables.proofs.UseLaws.{is_reserved}
 use Rattle.aeth_accepted.specs.Inputs.{AreAccepted, Inputs, design_of, run_of}
 use Rattle.aeth_accepted.specs.Wishes.{IsOfferedAlone, latency_at}
-use Rattle.aeth_accepted.proofs.GivenGrants.{given_in, use-known}
-use Rattle.aeth_accepted.proofs.TableFlows.{shape-same}
+use Rattle.aeth_accepted.proofs.{GivenGrants.given_in, GivenGrants.use-known, TableFlows.shape-same}
 
 -- What a channel needs.
 abbrev pub need_at : Inputs → Channel → ℕ

@@ -6,27 +6,20 @@
 --   row_at      the row of a channel in a group
 --   IsTabled      a flow has what a row says
 -- This project's own.
-use Rattle.std.specs.Prelude.{◌≡◌, ◌≤◌, ℕ, List}
-use Rattle.aeth_base.specs.Limits.{max_cycles}
-use Rattle.aeth_base.specs.declared.ids.Channel.{Channel}
+use Rattle.std.proofs.Common.{◌≡◌, ◌≤◌, ℕ, List}
+use Rattle.aeth_base.specs.{Limits.max_cycles, declared.ids.Channel.Channel}
 use Rattle.aeth_server.specs.Shape.{buffer_of}
 use Rattle.aeth_chip.specs.Chip.{ChipData}
 use Rattle.aeth_app.specs.App.{AppData, IsAppOf}
 use Rattle.aeth_group.specs.Members.{groups_of}
-use Rattle.aeth_plan.specs.Plan.{PlanData}
-use Rattle.aeth_plan.specs.Design.{IsDesign}
+use Rattle.aeth_plan.specs.{Plan.PlanData, Design.IsDesign}
 use Rattle.aeth_ni.specs.declared.row.ChannelRow.{ChannelRow}
-use Rattle.aeth_trace.specs.Receivers.{AreReceiversOf}
-use Rattle.aeth_trace.specs.Switches.{AreSwitchesOf}
-use Rattle.aeth_trace.specs.Words.{AreWordsOf}
-use Rattle.aeth_trace.specs.declared.receivers.PullRow.{PullRow}
-use Rattle.aeth_trace.specs.declared.switches.SwitchRow.{SwitchRow}
-use Rattle.aeth_trace.specs.declared.words.WordRow.{WordRow}
-use Rattle.aeth_report.specs.Channels.{sender}
-use Rattle.aeth_report.specs.Design.{Design, connection_at, grant_at, queue_at, remote_at, seat_at}
-use Rattle.aeth_report.specs.Design.{shape_at}
-use Rattle.aeth_report.specs.Flows.{Flow, Run}
-use Rattle.aeth_report.specs.Routes.{route_along}
+use Rattle.aeth_trace.specs.{Receivers.AreReceiversOf, Switches.AreSwitchesOf, Words.AreWordsOf}
+use Rattle.aeth_trace.specs.{declared.receivers.PullRow.PullRow}
+use Rattle.aeth_trace.specs.{declared.switches.SwitchRow.SwitchRow, declared.words.WordRow.WordRow}
+use Rattle.aeth_report.specs.{Channels.sender, Design.Design, Design.connection_at, Design.grant_at}
+use Rattle.aeth_report.specs.{Design.queue_at, Design.remote_at, Design.seat_at, Design.shape_at}
+use Rattle.aeth_report.specs.{Flows.Flow, Flows.Run, Routes.route_along}
 use Rattle.aeth_tables.specs.Switching.{spans_of}
 
 -- A chip, an application and a plan, the rows of the three traces, and the number of cycles.

@@ -1,6 +1,6 @@
 -- What a channel wishes of the latency of its words, and a word that waits alone.
 -- Latency of a single word: this project's own.
-use Rattle.std.specs.Prelude.{◌≡◌, ◌≤◌, ◌<◌, ℕ, ◌+◌, ◌-◌, length, slice_index}
+use Rattle.std.proofs.Common.{◌≡◌, ◌≤◌, ◌<◌, ℕ, ◌+◌, ◌-◌, length, slice_index}
 use Rattle.aeth_base.specs.declared.ids.Channel.{Channel}
 use Rattle.aeth_app.specs.App.{wish_of}
 use Rattle.aeth_server.specs.PrivateServer.{PrivateServer, accepted, returned, sent}

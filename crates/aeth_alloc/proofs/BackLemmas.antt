@@ -1,31 +1,25 @@
 -- What the `fwd` channel of a unit took is given back: all is as it was before.
 use Rattle.std.proofs.Common.{◌≡◌, ◌≢◌, ◌∙◌, ◌<◌, ◌≤◌, ◌++◌, ℕ, List, [], ◌∷◌, Option, Some, None}
 use Rattle.std.proofs.Common.{cond, get_or, length, take, slice_get, refl, sym, ap, subst, arith}
-use Rattle.std.specs.Prelude.{IfSome, IsSome, IsSomeAnd, is_none}
+use Rattle.std.proofs.Common.{IfSome, IsSome, IsSomeAnd, is_none}
 use Rattle.std.proofs.Math.Seq.{take-append_seam}
-use Rattle.std.proofs.lemmas.List.{length_push}
-use Rattle.std.proofs.lemmas.Option.{same_Some, slice_get-get_or}
-use Rattle.aeth_base.specs.declared.ids.CoreId.{CoreId}
-use Rattle.aeth_base.specs.declared.ids.NiId.{NiId}
-use Rattle.aeth_base.specs.declared.ids.Side.TheVariants.{Fwd}
-use Rattle.aeth_base.specs.declared.ids.Unit.{Unit as GroupUnit}
+use Rattle.std.proofs.lemmas.{List.length_push, Option.same_Some, Option.slice_get-get_or}
+use Rattle.aeth_base.specs.declared.ids.{CoreId.CoreId, NiId.NiId, Side.TheVariants.Fwd}
+use Rattle.aeth_base.specs.declared.ids.{Unit.Unit as GroupUnit}
 use Rattle.aeth_chip.specs.declared.node.Link.{Link}
-use Rattle.aeth_app.specs.App.{IsConnection}
-use Rattle.aeth_app.specs.declared.connection.Connection.{Connection}
+use Rattle.aeth_app.specs.{App.IsConnection, declared.connection.Connection.Connection}
 use Rattle.aeth_group.specs.declared.grant.Grant.{Grant}
 use Rattle.aeth_book.specs.Book.{BookData, IsBook, with_grant}
-use Rattle.aeth_seats.specs.Places.{Place, seat_of}
-use Rattle.aeth_seats.specs.Seats.{IsSeats, SeatsData}
+use Rattle.aeth_seats.specs.{Places.Place, Places.seat_of, Seats.IsSeats, Seats.SeatsData}
 use Rattle.aeth_seats.proofs.SeatLemmas.{seats-undone}
 use Rattle.aeth_paths.specs.declared.request.Found.{Found}
 use Rattle.aeth_alloc.specs.Channels.{Design, Reserved, grant_of, tried, with_found, with_seat}
 use Rattle.aeth_alloc.specs.Channels.{with_seat_by}
 use Rattle.aeth_alloc.specs.Holds.{IsCandidateFor, IsDesign, IsReservedOf, IsWithoutLast}
 use Rattle.aeth_alloc.specs.Holds.{MayGiveBack, given_back, unseated_of}
-use Rattle.aeth_alloc.proofs.SeatedLemmas.{AreSeated, both-seated, other-with_seat}
-use Rattle.aeth_alloc.proofs.SeatLineLemmas.{SitsOn}
-use Rattle.aeth_alloc.proofs.TriedLemmas.{tried-some}
-use Rattle.aeth_alloc.proofs.TurnLemmas.{alike-seat}
+use Rattle.aeth_alloc.proofs.{SeatedLemmas.AreSeated, SeatedLemmas.both-seated}
+use Rattle.aeth_alloc.proofs.{SeatedLemmas.other-with_seat, SeatLineLemmas.SitsOn}
+use Rattle.aeth_alloc.proofs.{TriedLemmas.tried-some, TurnLemmas.alike-seat}
 
 -- ---- seats
 

@@ -1,28 +1,24 @@
 -- Each try of an allocation has the grants before the turns of the tries before it.
 use Rattle.std.proofs.Common.{◌≡◌, ◌∙◌, ◌≤◌, ◌+◌, ◌++◌, ℕ, zero, suc, List, [], ◌∷◌, Option, None}
-use Rattle.std.proofs.Common.{Some, length, refl, sym, ap, subst, arith, get_or, take}
-use Rattle.std.specs.Prelude.{All, AllPairs, option_and_then, option_map, option_to_list, slice_get}
-use Rattle.std.specs.List.{filter_map, range_with_len}
-use Rattle.std.proofs.lemmas.List.{append-nil, length-append, take-append-le}
-use Rattle.std.proofs.lemmas.List.Elements.{All-push, filter_map-append}
-use Rattle.std.proofs.lemmas.List.Quantifiers.{all_pairs_push}
+use Rattle.std.proofs.Common.{Some, length, refl, sym, ap, subst, arith, get_or, take, All}
+use Rattle.std.proofs.Common.{AllPairs, option_and_then, option_map, option_to_list, slice_get}
+use Rattle.std.proofs.Common.{append-nil, length-append}
+use Rattle.std.proofs.lemmas.List.{take-append-le, Elements.All-push, Elements.filter_map-append}
+use Rattle.std.proofs.lemmas.List.{Quantifiers.all_pairs_push}
 use Rattle.std.proofs.lemmas.Option.{none-some, same_Some}
+use Rattle.std.specs.List.{filter_map, range_with_len}
 use Rattle.aeth_base.proofs.Ranges.{range_with_len-more}
-use Rattle.aeth_base.specs.declared.ids.Side.{Side}
-use Rattle.aeth_base.specs.declared.ids.Side.TheVariants.{Back, Fwd}
+use Rattle.aeth_base.specs.declared.ids.Side.{Side, TheVariants.Back, TheVariants.Fwd}
 use Rattle.aeth_base.specs.declared.ids.Unit.{Unit as GroupUnit}
-use Rattle.aeth_app.specs.declared.connection.Connection.{Connection}
+use Rattle.aeth_app.specs.{declared.connection.Connection.Connection, App.AppData}
 use Rattle.aeth_chip.specs.Chip.{ChipData}
-use Rattle.aeth_app.specs.App.{AppData}
-use Rattle.aeth_group.specs.Members.{GroupsData, units_of}
-use Rattle.aeth_group.specs.declared.grant.Grant.{Grant}
-use Rattle.aeth_paths.specs.Trials.{TrialData}
-use Rattle.aeth_paths.specs.declared.request.Found.{Found}
+use Rattle.aeth_group.specs.{Members.GroupsData, Members.units_of, declared.grant.Grant.Grant}
+use Rattle.aeth_paths.specs.{Trials.TrialData, declared.request.Found.Found}
 use Rattle.aeth_alloc.specs.Allocation.{after_turns}
 use Rattle.aeth_alloc.specs.Channels.{Design, Reserved, first_for, grant_of, tried, tried_by}
 use Rattle.aeth_alloc.specs.Channels.{with_found}
-use Rattle.aeth_alloc.specs.Trials.{GoesOn, earlier_count, own_count, refusal_in, trial_after, trial_for}
-use Rattle.aeth_alloc.specs.Trials.{trial_in, trial_of, reserved_for, trials_of}
+use Rattle.aeth_alloc.specs.Trials.{GoesOn, earlier_count, own_count, refusal_in, trial_after}
+use Rattle.aeth_alloc.specs.Trials.{trial_for, trial_in, trial_of, reserved_for, trials_of}
 use Rattle.aeth_alloc.specs.Turns.{State, after_turn}
 use Rattle.aeth_alloc.specs.declared.outcome.Refused.{Refused}
 use Rattle.aeth_alloc.proofs.KeptTryLemmas.{Grow, grow-turn, one-kept}

@@ -1,38 +1,26 @@
 -- The first candidate as a function is the first candidate as a fact.
-use Rattle.std.proofs.Common.{◌≡◌, ◌∙◌, ℕ, Bool, true, false, List, [], ◌∷◌, Contains}
-use Rattle.std.proofs.Common.{Option, Some, None, get_or, filter, refl, sym, ap, subst}
-use Rattle.std.proofs.Common.{inl, inr, cond}
-use Rattle.std.specs.List.{best_of, flat_map}
-use Rattle.std.specs.declared.cmp.Ordering.{Ordering}
-use Rattle.std.specs.Ordering.{is_lt, on}
-use Rattle.std.specs.Cmp.{IsTotalOrder}
-use Rattle.std.proofs.lemmas.Cmp.{on_total}
-use Rattle.std.proofs.lemmas.List.{get_or_default}
-use Rattle.std.proofs.lemmas.List.Elements.{Contains-get_or}
-use Rattle.std.proofs.lemmas.List.MinMax.{ranks_by, IsFirstBest-from_best_of}
-use Rattle.std.proofs.lemmas.Option.{same_Some, none-some}
+use Rattle.std.proofs.Common.{◌≡◌, ◌∙◌, ℕ, Bool, true, false, List, [], ◌∷◌, Contains, Option, Some}
+use Rattle.std.proofs.Common.{None, get_or, filter, refl, sym, ap, subst, inl, inr, cond}
+use Rattle.std.proofs.lemmas.{Cmp.on_total, List.get_or_default, List.Elements.Contains-get_or}
+use Rattle.std.proofs.lemmas.{List.MinMax.ranks_by, List.MinMax.IsFirstBest-from_best_of}
+use Rattle.std.proofs.lemmas.{Option.same_Some, Option.none-some}
+use Rattle.std.specs.{List.best_of, List.flat_map, declared.cmp.Ordering.Ordering, Ordering.is_lt}
+use Rattle.std.specs.{Ordering.on, Cmp.IsTotalOrder}
 use Rattle.aeth_base.proofs.Members.{Contains-cases, Contains-filter, Contains-flat_map}
-use Rattle.aeth_base.proofs.Members.{Contains-here, Contains-nil}
-use Rattle.aeth_base.proofs.Members.{filter-Contains, flat_map-Contains}
-use Rattle.aeth_base.specs.declared.ids.LinkId.{LinkId}
-use Rattle.aeth_base.specs.declared.ids.NiId.{NiId}
-use Rattle.aeth_slots.specs.Choice.{first_by}
-use Rattle.aeth_slots.specs.SlotSet.{Slots}
-use Rattle.aeth_chip.specs.Chip.{ChipData, IsChip}
-use Rattle.aeth_chip.specs.Paths.{IsAdmissible}
+use Rattle.aeth_base.proofs.Members.{Contains-here, Contains-nil, filter-Contains}
+use Rattle.aeth_base.proofs.Members.{flat_map-Contains}
+use Rattle.aeth_base.specs.declared.ids.{LinkId.LinkId, NiId.NiId}
+use Rattle.aeth_slots.specs.{Choice.first_by, SlotSet.Slots}
+use Rattle.aeth_chip.specs.{Chip.ChipData, Chip.IsChip, Paths.IsAdmissible}
 use Rattle.aeth_book.specs.Book.{BookData, IsBook}
-use Rattle.aeth_check.specs.Routes.{is_admissible}
-use Rattle.aeth_check.proofs.RouteLaws.{is_admissible-Decides}
-use Rattle.aeth_paths.specs.Candidates.{IsCandidate, IsFirst, link_cost, path_order}
-use Rattle.aeth_paths.specs.Candidates.{slots_of}
+use Rattle.aeth_check.{specs.Routes.is_admissible, proofs.RouteLaws.is_admissible-Decides}
+use Rattle.aeth_paths.specs.Candidates.{IsCandidate, IsFirst, link_cost, path_order, slots_of}
 use Rattle.aeth_paths.specs.Open.{is_crowded}
 use Rattle.aeth_paths.specs.Pairs.{IsOffered, OfferedFrom}
-use Rattle.aeth_paths.specs.declared.request.Found.{Found}
-use Rattle.aeth_paths.specs.declared.request.Request.{Request}
-use Rattle.aeth_paths.proofs.CandidateLemmas.{not-less, offered-candidate, room-from, slots-live}
-use Rattle.aeth_paths.proofs.FirstLemmas.{path_total}
-use Rattle.aeth_paths.proofs.LiveLemmas.{sized}
-use Rattle.aeth_paths.proofs.UniqueLemmas.{first-unique}
+use Rattle.aeth_paths.specs.declared.request.{Found.Found, Request.Request}
+use Rattle.aeth_paths.proofs.{CandidateLemmas.not-less, CandidateLemmas.offered-candidate}
+use Rattle.aeth_paths.proofs.{CandidateLemmas.room-from, CandidateLemmas.slots-live}
+use Rattle.aeth_paths.proofs.{FirstLemmas.path_total, LiveLemmas.sized, UniqueLemmas.first-unique}
 use Rattle.aeth_alloc.proofs.ListedPaths.{path-listed}
 use Rattle.aeth_alloc.specs.FirstCandidate.{candidates, candidates_between, first_candidate}
 use Rattle.aeth_alloc.specs.FirstCandidate.{found_with, paths_of}

@@ -1,18 +1,15 @@
 -- What the search finds is the first candidate.
-use Rattle.std.proofs.Common.{◌≡◌, ℕ, List, Option, Some, None, subst, sym}
-use Rattle.std.specs.Prelude.{IfOk, MatchOption, Result, Ok, Err}
-use Rattle.aeth_base.specs.declared.ids.CoreId.{CoreId}
-use Rattle.aeth_base.specs.declared.ids.NiId.{NiId}
-use Rattle.aeth_base.specs.declared.ids.Side.{Side}
-use Rattle.aeth_base.specs.declared.ids.Unit.{Unit as GroupUnit}
+use Rattle.std.proofs.Common.{◌≡◌, ℕ, List, Option, Some, None, subst, sym, IfOk, MatchOption}
+use Rattle.std.proofs.Common.{Result, Ok, Err}
+use Rattle.aeth_base.specs.declared.ids.{CoreId.CoreId, NiId.NiId, Side.Side}
+use Rattle.aeth_base.specs.declared.ids.{Unit.Unit as GroupUnit}
 use Rattle.aeth_chip.specs.Chip.{ChipData, IsChip}
 use Rattle.aeth_app.specs.declared.connection.Connection.{Connection}
 use Rattle.aeth_app.specs.Connections.{receiver, sender}
 use Rattle.aeth_book.specs.Book.{BookData, IsBook}
 use Rattle.aeth_seats.specs.Seats.{candidates_of, crowded_of}
 use Rattle.aeth_paths.specs.Candidates.{IsCandidate, IsFirst}
-use Rattle.aeth_paths.specs.declared.request.Found.{Found}
-use Rattle.aeth_paths.specs.declared.request.Request.{Request}
+use Rattle.aeth_paths.specs.declared.request.{Found.Found, Request.Request}
 use Rattle.aeth_alloc.specs.Channels.{Design, Reserved, first_for, request_of}
 use Rattle.aeth_alloc.specs.FirstCandidate.{first_candidate}
 use Rattle.aeth_alloc.specs.Holds.{IsReservedOf}

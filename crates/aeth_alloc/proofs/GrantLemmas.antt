@@ -1,23 +1,15 @@
 -- What a book asks of a grant holds of one for a candidate.
-use Rattle.std.proofs.Common.{◌≡◌, ◌<◌, ℕ, List, All, Contains, length, sym, ap, subst}
-use Rattle.std.proofs.Common.{get_or}
-use Rattle.std.proofs.lemmas.List.Elements.{Contains-get_or}
-use Rattle.std.proofs.lemmas.Option.{slice_get_within}
+use Rattle.std.proofs.Common.{◌≡◌, ◌<◌, ℕ, List, All, Contains, length, sym, ap, subst, get_or}
+use Rattle.std.proofs.lemmas.{List.Elements.Contains-get_or, Option.slice_get_within}
 use Rattle.aeth_base.proofs.Members.{map-Contains}
-use Rattle.aeth_chip.specs.declared.node.Node.TheVariants.{Ni}
-use Rattle.aeth_chip.specs.Paths.{BeginsAt, to_of}
+use Rattle.aeth_base.specs.declared.ids.{LinkId.LinkId, NiId.NiId}
+use Rattle.aeth_chip.specs.{declared.node.Node.TheVariants.Ni, Paths.BeginsAt, Paths.to_of}
 use Rattle.aeth_chip.proofs.JoinedLaws.{joined-each}
-use Rattle.aeth_base.specs.declared.ids.LinkId.{LinkId}
-use Rattle.aeth_base.specs.declared.ids.NiId.{NiId}
-use Rattle.aeth_slots.specs.Choice.{sublists}
-use Rattle.aeth_slots.specs.SlotSet.{Slots}
-use Rattle.aeth_slots.proofs.ChoiceLemmas.{chosen-some}
-use Rattle.aeth_slots.proofs.Sublists.{sublist-member}
-use Rattle.aeth_book.specs.Book.{BookData}
-use Rattle.aeth_book.specs.Free.{free_starts}
+use Rattle.aeth_slots.specs.{Choice.sublists, SlotSet.Slots}
+use Rattle.aeth_slots.proofs.{ChoiceLemmas.chosen-some, Sublists.sublist-member}
+use Rattle.aeth_book.specs.{Book.BookData, Free.free_starts}
 use Rattle.aeth_paths.specs.Candidates.{IsCandidate, gap_on}
-use Rattle.aeth_paths.specs.declared.request.Found.{Found}
-use Rattle.aeth_paths.specs.declared.request.Request.{Request}
+use Rattle.aeth_paths.specs.declared.request.{Found.Found, Request.Request}
 
 module _ (book : BookData) (ask : Request) (from to crowded : List NiId) (found : Found)
     (is : IsCandidate book ask from to crowded found) where

@@ -1,32 +1,28 @@
 -- Grants in a plan's order: they are the same grants, and rise.
-use Rattle.std.proofs.Common.{◌≡◌, ◌∙◌, ◌<◌, ◌⊎◌, ℕ, suc, Bool, true, false, cond, eqb, List}
-use Rattle.std.proofs.Common.{[], ◌∷◌, Contains, filter, refl, sym, ap, subst, inl, inr}
-use Rattle.std.proofs.Common.{arith}
-use Rattle.std.specs.Prelude.{AllPairs, nat_lt, ◌==◌}
-use Rattle.std.specs.List.{range_with_len}
-use Rattle.std.specs.List.Sorted.{IsPermutation}
-use Rattle.std.proofs.lemmas.Bool.{and_from, and_parts, eq-eqb, eqb-true}
-use Rattle.std.proofs.lemmas.Bool.Decides.{nat_tests}
+use Rattle.std.proofs.Common.{◌≡◌, ◌∙◌, ◌<◌, ◌⊎◌, ℕ, suc, Bool, true, false, cond, eqb, List, []}
+use Rattle.std.proofs.Common.{◌∷◌, Contains, filter, refl, sym, ap, subst, inl, inr, arith}
+use Rattle.std.proofs.Common.{AllPairs, nat_lt, ◌==◌, eq-eqb, eqb-true}
+use Rattle.std.proofs.lemmas.Bool.{and_from, and_parts, Decides.nat_tests}
 use Rattle.std.proofs.lemmas.List.Elements.{Contains-append_cases, Contains-append_left}
 use Rattle.std.proofs.lemmas.List.Elements.{Contains-append_right}
+use Rattle.std.specs.List.{range_with_len, Sorted.IsPermutation}
 use Rattle.aeth_base.proofs.Members.{Contains-filter, Contains-flat_map, filter-Contains}
 use Rattle.aeth_base.proofs.Members.{flat_map-Contains, map-Contains}
-use Rattle.aeth_base.specs.declared.ids.Side.{Side}
-use Rattle.aeth_base.specs.declared.ids.Side.TheVariants.{Back, Fwd}
+use Rattle.aeth_base.proofs.SideLemmas.{same_side-is, same_side-itself}
+use Rattle.aeth_base.specs.declared.ids.Side.{Side, TheVariants.Back, TheVariants.Fwd}
 use Rattle.aeth_base.specs.declared.ids.Unit.{Unit as GroupUnit}
+use Rattle.aeth_base.specs.Sides.{same_side}
 use Rattle.aeth_group.specs.Members.{GroupsData, is_member, units_of, units_with}
 use Rattle.aeth_group.specs.declared.grant.Grant.{Grant}
-use Rattle.aeth_plan.specs.Making.{AreApart}
-use Rattle.aeth_plan.specs.Plan.{PlanData, grant_before, side_before}
+use Rattle.aeth_plan.specs.{Making.AreApart, Plan.PlanData, Plan.grant_before, Plan.side_before}
+use Rattle.aeth_plan.specs.{UnitGrants.is_for}
 use Rattle.aeth_plan.proofs.MadePlans.{grants_apart}
-use Rattle.aeth_plan.specs.UnitGrants.{is_for}
-use Rattle.aeth_base.specs.Sides.{same_side}
-use Rattle.aeth_base.proofs.SideLemmas.{same_side-is, same_side-itself}
 use Rattle.aeth_text.specs.Order.{Rises}
 use Rattle.aeth_alloc.specs.Allocation.{grants_for, in_order}
 use Rattle.aeth_alloc.proofs.OnceLists.{AreOnce, once-pairs, once-permutation}
-use Rattle.aeth_alloc.proofs.OrderedLists.{Ordered, ordered-append, ordered-filter, ordered-flat_map}
-use Rattle.aeth_alloc.proofs.OrderedLists.{ordered-map, ordered-range, rises-ordered}
+use Rattle.aeth_alloc.proofs.OrderedLists.{Ordered, ordered-append, ordered-filter}
+use Rattle.aeth_alloc.proofs.OrderedLists.{ordered-flat_map, ordered-map, ordered-range}
+use Rattle.aeth_alloc.proofs.OrderedLists.{rises-ordered}
 
 -- Units with one connection and one group are one.
 pub one-unit : (a b : GroupUnit) → a.conn.0 ≡ b.conn.0 → a.group.0 ≡ b.group.0 → a ≡ b

@@ -1,22 +1,18 @@
 -- Grants grow from turn to turn, so that a try that is kept stays the same trial over those of later
 -- turns.
 use Rattle.std.proofs.Common.{◌≡◌, ◌∙◌, ◌≤◌, ◌+◌, ◌++◌, ℕ, suc, List, [], ◌∷◌, Option, None, Some}
-use Rattle.std.proofs.Common.{length, map, refl, sym, ap, subst, arith}
-use Rattle.std.specs.Prelude.{IfSome, option_map, option_to_list, slice_get}
+use Rattle.std.proofs.Common.{length, map, refl, sym, ap, subst, arith, IfSome, option_map}
+use Rattle.std.proofs.Common.{option_to_list, slice_get, append-nil, append_assoc, length-append}
+use Rattle.std.proofs.lemmas.{List.map-append, List.take-append-le, List.Elements.All-append}
+use Rattle.std.proofs.lemmas.{List.Elements.filter_map-append, Option.none-some, Option.same_Some}
 use Rattle.std.specs.List.{cons_option, filter_map, range_with_len}
-use Rattle.std.proofs.lemmas.List.{append-nil, append_assoc, length-append, map-append, take-append-le}
-use Rattle.std.proofs.lemmas.List.Elements.{All-append, filter_map-append}
-use Rattle.std.proofs.lemmas.Option.{none-some, same_Some}
 use Rattle.aeth_base.proofs.Ranges.{range_with_len-more}
-use Rattle.aeth_base.specs.declared.ids.Side.{Side}
-use Rattle.aeth_base.specs.declared.ids.Side.TheVariants.{Back, Fwd}
+use Rattle.aeth_base.specs.declared.ids.Side.{Side, TheVariants.Back, TheVariants.Fwd}
 use Rattle.aeth_base.specs.declared.ids.Unit.{Unit as GroupUnit}
 use Rattle.aeth_app.specs.declared.connection.Connection.{Connection}
-use Rattle.aeth_group.specs.Members.{GroupsData, units_of}
-use Rattle.aeth_group.specs.declared.grant.Grant.{Grant}
+use Rattle.aeth_group.specs.{Members.GroupsData, Members.units_of, declared.grant.Grant.Grant}
 use Rattle.aeth_order.specs.Units.{next_unit}
-use Rattle.aeth_paths.specs.Trials.{TrialData}
-use Rattle.aeth_paths.specs.declared.request.Found.{Found}
+use Rattle.aeth_paths.specs.{Trials.TrialData, declared.request.Found.Found}
 use Rattle.aeth_alloc.specs.Channels.{Design, Reserved, first_for, grant_of, tried, tried_by}
 use Rattle.aeth_alloc.specs.Channels.{with_found}
 use Rattle.aeth_alloc.specs.Trials.{trial_after, trials_of}

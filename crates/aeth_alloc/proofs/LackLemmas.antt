@@ -1,32 +1,25 @@
 -- Each unit of which a channel has no candidate in its turn is refused.
 use Rattle.std.proofs.Common.{◌≡◌, ◌∙◌, ◌<◌, ◌++◌, ℕ, zero, suc, Contains, Option, Some, None}
 use Rattle.std.proofs.Common.{length, refl, sym, ap, subst, inl, inr, arith, slice_get}
-use Rattle.std.proofs.lemmas.Bool.{cases_eq}
-use Rattle.std.proofs.lemmas.List.Elements.{Contains-append_left, Contains-push}
-use Rattle.std.proofs.lemmas.Option.{same_Some}
-use Rattle.aeth_base.specs.declared.ids.Side.{Side}
-use Rattle.aeth_base.specs.declared.ids.Side.TheVariants.{Back, Fwd}
+use Rattle.std.proofs.lemmas.{Bool.cases_eq, List.Elements.Contains-append_left}
+use Rattle.std.proofs.lemmas.{List.Elements.Contains-push, Option.same_Some}
+use Rattle.aeth_base.specs.declared.ids.Side.{Side, TheVariants.Back, TheVariants.Fwd}
 use Rattle.aeth_base.specs.declared.ids.Unit.{Unit as GroupUnit}
 use Rattle.aeth_chip.specs.Chip.{IsChip}
-use Rattle.aeth_app.specs.App.{IsApp, IsAppOf}
-use Rattle.aeth_app.specs.declared.connection.Connection.{Connection}
+use Rattle.aeth_app.specs.{App.IsApp, App.IsAppOf, declared.connection.Connection.Connection}
 use Rattle.aeth_book.specs.Book.{IsBook}
 use Rattle.aeth_group.specs.Members.{GroupsData, groups_of, units_of}
 use Rattle.aeth_group.specs.declared.grant.Grant.{Grant}
 use Rattle.aeth_order.specs.Units.{next_unit}
-use Rattle.aeth_alloc.specs.Allocation.{after_turns, last_state}
-use Rattle.aeth_alloc.specs.Channels.{Design, Reserved, tried}
-use Rattle.aeth_alloc.specs.Holds.{IsCandidateFor}
-use Rattle.aeth_alloc.specs.Refusals.{HasNoCandidate, IsBeforeTry, LacksCandidate, RefusesExactly}
-use Rattle.aeth_alloc.specs.Turns.{State, after_back, after_fwd, after_turn, after_turn_of}
-use Rattle.aeth_alloc.specs.Turns.{refusals_of, unit_tried}
-use Rattle.aeth_alloc.specs.declared.outcome.Refused.{Refused}
-use Rattle.aeth_alloc.proofs.LastStateLemmas.{sound-turns}
-use Rattle.aeth_alloc.proofs.NextUnitLemmas.{next-waits}
-use Rattle.aeth_alloc.proofs.RefusalLemmas.{refused-last}
-use Rattle.aeth_alloc.proofs.SoundLemmas.{IsSound}
-use Rattle.aeth_alloc.proofs.TriedLemmas.{tried-some}
-use Rattle.aeth_alloc.proofs.UnitTryLemmas.{sound-one}
+use Rattle.aeth_alloc.specs.{Allocation.after_turns, Allocation.last_state, Channels.Design}
+use Rattle.aeth_alloc.specs.{Channels.Reserved, Channels.tried, Holds.IsCandidateFor}
+use Rattle.aeth_alloc.specs.{Refusals.HasNoCandidate, Refusals.IsBeforeTry, Refusals.LacksCandidate}
+use Rattle.aeth_alloc.specs.{Refusals.RefusesExactly, Turns.State, Turns.after_back}
+use Rattle.aeth_alloc.specs.{Turns.after_fwd, Turns.after_turn, Turns.after_turn_of}
+use Rattle.aeth_alloc.specs.{Turns.refusals_of, Turns.unit_tried, declared.outcome.Refused.Refused}
+use Rattle.aeth_alloc.proofs.{LastStateLemmas.sound-turns, NextUnitLemmas.next-waits}
+use Rattle.aeth_alloc.proofs.{RefusalLemmas.refused-last, SoundLemmas.IsSound}
+use Rattle.aeth_alloc.proofs.{TriedLemmas.tried-some, UnitTryLemmas.sound-one}
 
 -- A channel that has no candidate isn't granted.
 not-granted : (design : Design) (reserved : Reserved) → IsChip design.chip → IsBook reserved.book

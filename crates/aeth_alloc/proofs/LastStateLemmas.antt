@@ -1,8 +1,7 @@
 -- The state before the first turn is sound, so is that after any number of turns, and after the last
 -- turn none waits.
 use Rattle.std.proofs.Common.{◌≡◌, ◌∙◌, ◌≤◌, ◌-◌, ℕ, zero, suc, List, [], ◌∷◌, Contains, Option}
-use Rattle.std.proofs.Common.{Some, None, length, refl, sym, ap, subst, inl, arith}
-use Rattle.std.specs.Prelude.{AllPairs}
+use Rattle.std.proofs.Common.{Some, None, length, refl, sym, ap, subst, inl, arith, AllPairs}
 use Rattle.std.proofs.lemmas.List.{length-map}
 use Rattle.aeth_base.proofs.Members.{Contains-map, Contains-nil, map-Contains}
 use Rattle.aeth_base.specs.declared.ids.Unit.{Unit as GroupUnit}
@@ -14,9 +13,8 @@ use Rattle.aeth_order.specs.Units.{all_units, keys_of, next_unit}
 use Rattle.aeth_order.specs.declared.keys.UnitKeys.{UnitKeys}
 use Rattle.aeth_seats.proofs.FirstLemmas.{seats-of-app}
 use Rattle.aeth_plan.specs.Making.{AreApart}
-use Rattle.aeth_alloc.specs.Allocation.{after_turns, first_state, last_state}
-use Rattle.aeth_alloc.specs.Channels.{Design}
-use Rattle.aeth_alloc.specs.Turns.{State, after_turn, after_turn_of}
+use Rattle.aeth_alloc.specs.{Allocation.after_turns, Allocation.first_state, Allocation.last_state}
+use Rattle.aeth_alloc.specs.{Channels.Design, Turns.State, Turns.after_turn, Turns.after_turn_of}
 use Rattle.aeth_alloc.proofs.NextUnitLemmas.{fewer-wait, next-waits, none-waits}
 use Rattle.aeth_alloc.proofs.StateLemmas.{IsSoundState, sound-after}
 use Rattle.aeth_alloc.proofs.TurnLemmas.{own-unit, state-first}

@@ -1,19 +1,14 @@
 -- An admissible path is one of the listed paths.
 use Rattle.std.proofs.Common.{◌+◌, ℕ, List, Contains, length, arith}
-use Rattle.std.specs.List.{range_with_len}
 use Rattle.std.proofs.lemmas.Option.{slice_get_within}
-use Rattle.aeth_base.proofs.Members.{Contains-flat_map, Contains-map}
-use Rattle.aeth_base.proofs.Ranges.{Contains-range}
+use Rattle.std.specs.List.{range_with_len}
+use Rattle.aeth_base.proofs.{Members.Contains-flat_map, Members.Contains-map, Ranges.Contains-range}
 use Rattle.aeth_base.specs.Limits.{max_path_links}
-use Rattle.aeth_base.specs.declared.ids.LinkId.{LinkId}
-use Rattle.aeth_base.specs.declared.ids.NiId.{NiId}
-use Rattle.aeth_chip.specs.Chip.{ChipData}
-use Rattle.aeth_chip.specs.LeastDistance.{link_ids, lists_of}
-use Rattle.aeth_chip.specs.declared.node.Link.{Link}
-use Rattle.aeth_chip.specs.declared.node.Node.TheVariants.{Ni}
-use Rattle.aeth_chip.specs.Paths.{BeginsAt, IsAdmissible, to_of}
-use Rattle.aeth_chip.proofs.JoinedLaws.{joined-each}
-use Rattle.aeth_chip.proofs.LeastDistanceLemmas.{Contains-lists_of}
+use Rattle.aeth_base.specs.declared.ids.{LinkId.LinkId, NiId.NiId}
+use Rattle.aeth_chip.specs.{Chip.ChipData, LeastDistance.link_ids, LeastDistance.lists_of}
+use Rattle.aeth_chip.specs.{declared.node.Link.Link, declared.node.Node.TheVariants.Ni}
+use Rattle.aeth_chip.specs.{Paths.BeginsAt, Paths.IsAdmissible, Paths.to_of}
+use Rattle.aeth_chip.proofs.{JoinedLaws.joined-each, LeastDistanceLemmas.Contains-lists_of}
 use Rattle.aeth_alloc.specs.FirstCandidate.{paths_of}
 
 -- An admissible path is listed.

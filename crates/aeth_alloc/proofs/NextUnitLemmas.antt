@@ -1,19 +1,13 @@
 -- The next unit is one that waits, and none is next only where none waits; each turn takes one.
-use Rattle.std.proofs.Common.{◌≡◌, ◌<◌, true}
-use Rattle.std.proofs.Common.{List, [], Contains, Option, Some, None, eqb, filter, length}
-use Rattle.std.proofs.Common.{not, refl, sym, ap, arith}
-use Rattle.std.specs.Prelude.{option_map}
-use Rattle.std.proofs.lemmas.Bool.{and_from, and_parts, eq-eqb, eqb-true}
-use Rattle.std.proofs.lemmas.List.Filters.{length-filter_both}
-use Rattle.std.proofs.lemmas.Option.{none-some, same_Some}
-use Rattle.aeth_base.proofs.Members.{Contains-filter}
-use Rattle.aeth_base.proofs.Members.{Contains-some}
+use Rattle.std.proofs.Common.{◌≡◌, ◌<◌, true, List, [], Contains, Option, Some, None, eqb, filter}
+use Rattle.std.proofs.Common.{length, not, refl, sym, ap, arith, option_map, eq-eqb, eqb-true}
+use Rattle.std.proofs.lemmas.{Bool.and_from, Bool.and_parts, List.Filters.length-filter_both}
+use Rattle.std.proofs.lemmas.{Option.none-some, Option.same_Some}
+use Rattle.aeth_base.proofs.Members.{Contains-filter, Contains-some}
 use Rattle.aeth_base.specs.declared.ids.Unit.{Unit as GroupUnit}
-use Rattle.aeth_order.specs.Order.{first_by, turn_order}
-use Rattle.aeth_order.specs.Units.{UnitsData, is_unit, next_unit, without_unit}
-use Rattle.aeth_order.specs.declared.keys.UnitKeys.{UnitKeys}
-use Rattle.aeth_order.proofs.LeastLemmas.{first_by-none}
-use Rattle.aeth_order.proofs.NextLemmas.{first_by-among}
+use Rattle.aeth_order.specs.{Order.first_by, Order.turn_order, Units.UnitsData, Units.is_unit}
+use Rattle.aeth_order.specs.{Units.next_unit, Units.without_unit, declared.keys.UnitKeys.UnitKeys}
+use Rattle.aeth_order.proofs.{LeastLemmas.first_by-none, NextLemmas.first_by-among}
 use Rattle.aeth_seats.specs.Places.{Place}
 
 -- A unit waits.

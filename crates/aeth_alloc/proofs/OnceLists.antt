@@ -1,13 +1,11 @@
 -- Lists in which each item stands once: two of them with the same items are permutations.
-use Rattle.std.proofs.Common.{◌≡◌, ◌++◌, suc, List, [], ◌∷◌, Contains}
-use Rattle.std.proofs.Common.{sym, ap, subst, inl, inr, arith}
+use Rattle.std.proofs.Common.{◌≡◌, ◌++◌, suc, List, [], ◌∷◌, Contains, sym, ap, subst, inl, inr}
+use Rattle.std.proofs.Common.{arith, AllPairs}
+use Rattle.std.proofs.lemmas.List.{Elements.Contains-append_cases, Elements.Contains-append_left}
+use Rattle.std.proofs.lemmas.List.{Elements.Contains-append_right, Sorted.IsPermutation-cons}
+use Rattle.std.proofs.lemmas.List.{Sorted.IsPermutation-middle, Sorted.IsPermutation-refl}
+use Rattle.std.proofs.lemmas.List.{Sorted.IsPermutation-sym, Sorted.IsPermutation-trans}
 use Rattle.std.specs.List.Sorted.{IsPermutation}
-use Rattle.std.proofs.lemmas.List.Elements.{Contains-append_cases, Contains-append_left}
-use Rattle.std.proofs.lemmas.List.Elements.{Contains-append_right}
-use Rattle.std.proofs.lemmas.List.Sorted.{IsPermutation-cons, IsPermutation-middle}
-use Rattle.std.proofs.lemmas.List.Sorted.{IsPermutation-refl, IsPermutation-sym}
-use Rattle.std.proofs.lemmas.List.Sorted.{IsPermutation-trans}
-use Rattle.std.specs.Prelude.{AllPairs}
 use Rattle.aeth_base.proofs.Members.{Contains-cases, Contains-here, Contains-nil, Contains-there}
 
 -- No item of the list stands behind itself.

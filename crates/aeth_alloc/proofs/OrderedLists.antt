@@ -1,12 +1,10 @@
 -- Lists each of whose items is so related to all behind it, under `++`, `map`, `filter` and
 -- `flat_map`.
 use Rattle.std.proofs.Common.{◌≡◌, ◌<◌, ◌+◌, ◌++◌, ℕ, zero, suc, Bool, true, false, cond, List, []}
-use Rattle.std.proofs.Common.{◌∷◌, Contains, map, filter, sym, inl, inr}
-use Rattle.std.proofs.Common.{◌≤◌, subst, arith}
-use Rattle.std.specs.List.{flat_map, range_with_len}
+use Rattle.std.proofs.Common.{◌∷◌, Contains, map, filter, sym, inl, inr, ◌≤◌, subst, arith}
 use Rattle.std.proofs.lemmas.List.Elements.{Contains-append_cases}
-use Rattle.std.proofs.lemmas.Option.{get_or_from_slice_get, none-some, same_Some}
-use Rattle.std.proofs.lemmas.Option.{slice_get_within}
+use Rattle.std.proofs.lemmas.Option.{get_or_from_slice_get, none-some, same_Some, slice_get_within}
+use Rattle.std.specs.List.{flat_map, range_with_len}
 use Rattle.aeth_base.proofs.Members.{Contains-cases, Contains-here, Contains-nil, Contains-there}
 use Rattle.aeth_base.proofs.Members.{filter-Contains, flat_map-Contains, map-Contains}
 use Rattle.aeth_text.specs.Order.{Rises, RisesAfter}

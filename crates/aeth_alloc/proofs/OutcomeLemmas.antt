@@ -1,18 +1,14 @@
 -- What is made of the last state is what the allocation comes to.
-use Rattle.std.proofs.Common.{◌≡◌, ℕ, List, length, sym, subst}
-use Rattle.std.specs.Prelude.{AllPairs, IfOk, Result, Ok, Err}
+use Rattle.std.proofs.Common.{◌≡◌, ℕ, List, length, sym, subst, AllPairs, IfOk, Result, Ok, Err}
 use Rattle.aeth_chip.specs.Chip.{ChipData, IsChip}
 use Rattle.aeth_app.specs.App.{AppData, IsApp, IsAppOf}
 use Rattle.aeth_group.specs.Members.{GroupsData, groups_of, units_of}
-use Rattle.aeth_plan.specs.Making.{AreApart, IsPlanWith}
-use Rattle.aeth_plan.proofs.MadePlans.{made_once}
-use Rattle.aeth_alloc.specs.Allocation.{OutcomeData, allocation, last_state, outcome_of}
-use Rattle.aeth_alloc.specs.Channels.{Design}
-use Rattle.aeth_alloc.specs.Refusals.{RefusesExactly}
-use Rattle.aeth_alloc.specs.Turns.{State}
-use Rattle.aeth_alloc.proofs.LastStateLemmas.{last-apart, sound-turns}
-use Rattle.aeth_alloc.proofs.PlanLemmas.{plan-with}
-use Rattle.aeth_alloc.proofs.LackLemmas.{refuses-exactly}
+use Rattle.aeth_plan.{specs.Making.AreApart, specs.Making.IsPlanWith, proofs.MadePlans.made_once}
+use Rattle.aeth_alloc.specs.{Allocation.OutcomeData, Allocation.allocation, Allocation.last_state}
+use Rattle.aeth_alloc.specs.{Allocation.outcome_of, Channels.Design, Refusals.RefusesExactly}
+use Rattle.aeth_alloc.specs.{Turns.State}
+use Rattle.aeth_alloc.proofs.{LastStateLemmas.last-apart, LastStateLemmas.sound-turns}
+use Rattle.aeth_alloc.proofs.{PlanLemmas.plan-with, LackLemmas.refuses-exactly}
 
 -- The grants of the last state stand apart, so that a plan can be made of them.
 pub state-apart : (design : Design) (groups : GroupsData) (state : State) → IsChip design.chip

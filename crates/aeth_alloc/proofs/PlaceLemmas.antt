@@ -1,14 +1,14 @@
 -- The interfaces at the ends of a candidate have seats for its cores.
-use Rattle.std.proofs.Common.{◌≡◌, ◌≢◌, ◌∙◌, ◌<◌, ◌≤◌, ℕ, Bool, true, List, Contains, Option, Some, None}
-use Rattle.std.proofs.Common.{length, filter, refl, sym, ap, subst, inl, inr, arith}
+use Rattle.std.proofs.Common.{◌≡◌, ◌≢◌, ◌∙◌, ◌<◌, ◌≤◌, ℕ, Bool, true, List, Contains, Option, Some}
+use Rattle.std.proofs.Common.{None, length, filter, refl, sym, ap, subst, inl, inr, arith, eq-eqb}
+use Rattle.std.proofs.lemmas.Bool.{cases_eq}
 use Rattle.std.specs.List.{range_with_len}
-use Rattle.std.proofs.lemmas.Bool.{cases_eq, eq-eqb}
 use Rattle.aeth_base.proofs.Members.{Contains-filter, Contains-map, filter-Contains, map-Contains}
 use Rattle.aeth_base.proofs.Ranges.{All-range, Contains-range}
 use Rattle.aeth_base.specs.declared.ids.NiId.{NiId}
 use Rattle.aeth_seats.specs.Places.{Place, free_count, has_free, lowest_free, placed, seat_of}
-use Rattle.aeth_seats.specs.Seats.{SeatsData, candidates_of, crowded_of, interfaces, interfaces_from}
-use Rattle.aeth_seats.specs.Seats.{is_crowded}
+use Rattle.aeth_seats.specs.Seats.{SeatsData, candidates_of, crowded_of, interfaces}
+use Rattle.aeth_seats.specs.Seats.{interfaces_from, is_crowded}
 use Rattle.aeth_seats.proofs.FreeLemmas.{free-other, free-placed, free-some, some-free}
 use Rattle.aeth_seats.proofs.SeatingLemmas.{placed_on-other}
 use Rattle.aeth_paths.specs.Candidates.{IsAllowed}

@@ -1,41 +1,30 @@
 -- The plan of the last state breaks no rule but the one on missing sides, and that for refused units
 -- alone; and it is the plan that is made of the seats and grants.
-use Rattle.std.proofs.Common.{◌≡◌, ◌≢◌, ◌∙◌, ℕ, List, [], Contains, Option, Some, length}
-use Rattle.std.proofs.Common.{get_or, slice_get, refl, sym, ap, subst, inl, inr, true, arith}
-use Rattle.std.specs.Prelude.{option_map}
-use Rattle.std.proofs.lemmas.Bool.{cases_eq, cases_lt}
-use Rattle.std.proofs.lemmas.List.{get_or_default}
-use Rattle.std.proofs.lemmas.Option.{slice_get-map}
+use Rattle.std.proofs.Common.{◌≡◌, ◌≢◌, ◌∙◌, ℕ, List, [], Contains, Option, Some, length, get_or}
+use Rattle.std.proofs.Common.{slice_get, refl, sym, ap, subst, inl, inr, true, arith, option_map}
+use Rattle.std.proofs.lemmas.{Bool.cases_eq, Bool.cases_lt, List.get_or_default}
+use Rattle.std.proofs.lemmas.{Option.slice_get-map}
 use Rattle.aeth_base.proofs.Members.{Contains-nil}
-use Rattle.aeth_base.specs.declared.ids.CoreId.{CoreId}
-use Rattle.aeth_base.specs.declared.ids.NiId.{NiId}
-use Rattle.aeth_base.specs.declared.ids.Side.{Side}
-use Rattle.aeth_base.specs.declared.ids.Unit.{Unit as GroupUnit}
-use Rattle.aeth_chip.specs.Chip.{ChipData, IsChip}
-use Rattle.aeth_app.specs.App.{AppData, IsApp, IsAppOf}
-use Rattle.aeth_app.specs.declared.connection.Core.{Core}
-use Rattle.aeth_app.specs.Connections.{receiver, sender}
-use Rattle.aeth_group.specs.Conflict.{Conflict}
-use Rattle.aeth_group.specs.Members.{GroupsData, groups_of, units_of}
-use Rattle.aeth_group.specs.declared.grant.Grant.{Grant}
-use Rattle.aeth_group.proofs.ConflictLemmas.{held_from_conflict}
-use Rattle.aeth_group.proofs.UnitLemmas.{unit_from_units}
+use Rattle.aeth_base.specs.declared.ids.{CoreId.CoreId, NiId.NiId, Side.Side}
+use Rattle.aeth_base.specs.declared.ids.{Unit.Unit as GroupUnit}
+use Rattle.aeth_chip.specs.{Chip.ChipData, Chip.IsChip, declared.node.Link.Link}
+use Rattle.aeth_app.specs.{App.AppData, App.IsApp, App.IsAppOf, declared.connection.Core.Core}
+use Rattle.aeth_app.specs.{Connections.receiver, Connections.sender}
+use Rattle.aeth_group.specs.{Conflict.Conflict, Members.GroupsData, Members.groups_of}
+use Rattle.aeth_group.specs.{Members.units_of, declared.grant.Grant.Grant}
+use Rattle.aeth_group.proofs.{ConflictLemmas.held_from_conflict, UnitLemmas.unit_from_units}
 use Rattle.aeth_book.specs.Book.{AreApart, BookData, IsBook}
-use Rattle.aeth_plan.proofs.MadePlans.{before_irrefl}
-use Rattle.aeth_plan.proofs.SeatedCores.{seated_cores_rise}
-use Rattle.aeth_plan.specs.Making.{IsPlanWith, seated_cores}
-use Rattle.aeth_plan.specs.Plan.{PlanData, grant_before}
-use Rattle.aeth_plan.specs.Accepted.{HasGrant, HasSlots, IsAccepted, IsOnPath, NoTwo}
-use Rattle.aeth_plan.specs.Seated.{ni_of}
-use Rattle.aeth_chip.specs.declared.node.Link.{Link}
+use Rattle.aeth_plan.proofs.{MadePlans.before_irrefl, SeatedCores.seated_cores_rise}
+use Rattle.aeth_plan.specs.{Making.IsPlanWith, Making.seated_cores, Plan.PlanData}
+use Rattle.aeth_plan.specs.{Plan.grant_before, Accepted.HasGrant, Accepted.HasSlots}
+use Rattle.aeth_plan.specs.{Accepted.IsAccepted, Accepted.IsOnPath, Accepted.NoTwo, Seated.ni_of}
 use Rattle.aeth_seats.specs.First.{fixed_of}
-use Rattle.aeth_alloc.specs.Allocation.{OutcomeData, allocation, in_order, last_state, outcome_of}
-use Rattle.aeth_alloc.specs.Channels.{Design, Reserved}
-use Rattle.aeth_alloc.specs.Refusals.{IsAmong, LacksOnlyRefused}
-use Rattle.aeth_alloc.specs.Turns.{State}
-use Rattle.aeth_alloc.specs.declared.outcome.Refused.{Refused}
-use Rattle.aeth_alloc.proofs.InOrderLemmas.{Contains-in_order, in_order-Contains}
-use Rattle.aeth_alloc.proofs.InOrderLemmas.{in_order-ordered, in_order-permutation, in_order-rises}
+use Rattle.aeth_alloc.specs.{Allocation.OutcomeData, Allocation.allocation, Allocation.in_order}
+use Rattle.aeth_alloc.specs.{Allocation.last_state, Allocation.outcome_of, Channels.Design}
+use Rattle.aeth_alloc.specs.{Channels.Reserved, Refusals.IsAmong, Refusals.LacksOnlyRefused}
+use Rattle.aeth_alloc.specs.{Turns.State, declared.outcome.Refused.Refused}
+use Rattle.aeth_alloc.proofs.InOrderLemmas.{Contains-in_order, in_order-Contains, in_order-ordered}
+use Rattle.aeth_alloc.proofs.InOrderLemmas.{in_order-permutation, in_order-rises}
 use Rattle.aeth_alloc.proofs.LastStateLemmas.{none-waits-last, sound-turns}
 use Rattle.aeth_alloc.proofs.OrderedLists.{no_two-ordered, ordered-weaker}
 use Rattle.aeth_alloc.proofs.SeatLineLemmas.{ni-seated, seats-apart}

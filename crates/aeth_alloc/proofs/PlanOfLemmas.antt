@@ -1,31 +1,23 @@
 -- The plan of the last state is one for the chip, the application and its groups.
-use Rattle.std.proofs.Common.{◌∙◌, ◌<◌, ◌≤◌, ℕ, List, Contains, length, map}
-use Rattle.std.proofs.Common.{ap, subst, arith}
-use Rattle.std.specs.Prelude.{All}
+use Rattle.std.proofs.Common.{◌∙◌, ◌<◌, ◌≤◌, ℕ, List, Contains, length, map, ap, subst, arith, All}
 use Rattle.std.proofs.lemmas.List.{length-map, length_push}
 use Rattle.std.proofs.lemmas.List.Elements.{All-contains, Contains-get_or, recursion_from_All}
 use Rattle.std.proofs.lemmas.Option.{slice_get_within}
 use Rattle.aeth_base.specs.Limits.{min_path_links}
-use Rattle.aeth_base.specs.declared.ids.LinkId.{LinkId}
-use Rattle.aeth_base.specs.declared.ids.NiId.{NiId}
+use Rattle.aeth_base.specs.declared.ids.{LinkId.LinkId, NiId.NiId}
 use Rattle.aeth_chip.specs.Chip.{ChipData, IsChip}
 use Rattle.aeth_chip.specs.Paths.{IsPath, to_of}
 use Rattle.aeth_chip.specs.declared.node.Link.{Link}
-use Rattle.aeth_chip.specs.declared.node.Node.{Node}
-use Rattle.aeth_chip.specs.declared.node.Node.TheVariants.{Ni, Router}
+use Rattle.aeth_chip.specs.declared.node.Node.{Node, TheVariants.Ni, TheVariants.Router}
 use Rattle.aeth_app.specs.App.{AppData, IsApp, IsAppOf}
-use Rattle.aeth_group.specs.Members.{groups_of, units_of}
-use Rattle.aeth_group.specs.declared.grant.Grant.{Grant}
+use Rattle.aeth_group.specs.{Members.groups_of, Members.units_of, declared.grant.Grant.Grant}
 use Rattle.aeth_group.proofs.UnitLemmas.{unit_from_units}
 use Rattle.aeth_book.specs.Book.{IsFit}
-use Rattle.aeth_plan.specs.Plan.{IsGrantOf, IsPlanOf}
-use Rattle.aeth_plan.proofs.MadePlans.{made_for_chip}
-use Rattle.aeth_alloc.specs.Allocation.{allocation, last_state}
-use Rattle.aeth_alloc.specs.Channels.{Design, Reserved}
-use Rattle.aeth_alloc.specs.Turns.{State}
-use Rattle.aeth_alloc.proofs.LastStateLemmas.{sound-turns}
-use Rattle.aeth_alloc.proofs.PlanLemmas.{plan, plan-with}
-use Rattle.aeth_alloc.proofs.SoundLemmas.{IsSound}
+use Rattle.aeth_plan.{specs.Plan.IsGrantOf, specs.Plan.IsPlanOf, proofs.MadePlans.made_for_chip}
+use Rattle.aeth_alloc.specs.{Allocation.allocation, Allocation.last_state, Channels.Design}
+use Rattle.aeth_alloc.specs.{Channels.Reserved, Turns.State}
+use Rattle.aeth_alloc.proofs.{LastStateLemmas.sound-turns, PlanLemmas.plan, PlanLemmas.plan-with}
+use Rattle.aeth_alloc.proofs.{SoundLemmas.IsSound}
 
 -- A path has at least two links, since it leads through a router.
 path-long : (links : List Link) (a b : NiId) (path : List LinkId) → IsPath links a b path

@@ -1,20 +1,16 @@
 -- Each refusal is that of its turn, and the side for which the unit is refused had no candidate.
-use Rattle.std.proofs.Common.{◌≡◌, ◌∙◌, ◌<◌, ◌≤◌, ◌+◌, ℕ, zero, suc, [], Contains}
-use Rattle.std.proofs.Common.{Option, Some, None, length, refl, sym, ap, subst, inl, inr, arith}
-use Rattle.std.proofs.Common.{slice_get}
+use Rattle.std.proofs.Common.{◌≡◌, ◌∙◌, ◌<◌, ◌≤◌, ◌+◌, ℕ, zero, suc, [], Contains, Option, Some}
+use Rattle.std.proofs.Common.{None, length, refl, sym, ap, subst, inl, inr, arith, slice_get}
 use Rattle.std.proofs.lemmas.List.Elements.{Contains-append_cases}
 use Rattle.std.proofs.lemmas.Option.{none-some, same_Some, slice_get_cases}
 use Rattle.aeth_base.proofs.Members.{Contains-cases, Contains-nil}
-use Rattle.aeth_base.specs.declared.ids.Side.{Side}
-use Rattle.aeth_base.specs.declared.ids.Side.TheVariants.{Back, Fwd}
+use Rattle.aeth_base.specs.declared.ids.Side.{Side, TheVariants.Back, TheVariants.Fwd}
 use Rattle.aeth_base.specs.declared.ids.Unit.{Unit as GroupUnit}
 use Rattle.aeth_chip.specs.Chip.{IsChip}
-use Rattle.aeth_app.specs.App.{IsApp, IsAppOf}
-use Rattle.aeth_app.specs.declared.connection.Connection.{Connection}
+use Rattle.aeth_app.specs.{App.IsApp, App.IsAppOf, declared.connection.Connection.Connection}
 use Rattle.aeth_group.specs.Members.{GroupsData, groups_of, units_of}
 use Rattle.aeth_group.specs.declared.grant.Grant.{Grant}
-use Rattle.aeth_group.proofs.MemberLemmas.{connections-groups_of}
-use Rattle.aeth_group.proofs.UnitLemmas.{unit_from_units}
+use Rattle.aeth_group.proofs.{MemberLemmas.connections-groups_of, UnitLemmas.unit_from_units}
 use Rattle.aeth_order.specs.Units.{next_unit}
 use Rattle.aeth_alloc.specs.Allocation.{after_turns, last_state}
 use Rattle.aeth_alloc.specs.Channels.{Design, Reserved, tried}
@@ -22,12 +18,9 @@ use Rattle.aeth_alloc.specs.Refusals.{HasNoCandidate, IsBeforeTry, IsRefused}
 use Rattle.aeth_alloc.specs.Turns.{State, after_back, after_fwd, after_turn, after_turn_of}
 use Rattle.aeth_alloc.specs.Turns.{refusals_of, unit_tried}
 use Rattle.aeth_alloc.specs.declared.outcome.Refused.{Refused}
-use Rattle.aeth_alloc.proofs.LastStateLemmas.{sound-turns}
-use Rattle.aeth_alloc.proofs.NextUnitLemmas.{next-waits}
-use Rattle.aeth_alloc.proofs.SoundLemmas.{IsSound}
-use Rattle.aeth_alloc.proofs.TriedLemmas.{tried-none}
-use Rattle.aeth_alloc.proofs.TurnLemmas.{after_turns-next}
-use Rattle.aeth_alloc.proofs.UnitTryLemmas.{sound-one}
+use Rattle.aeth_alloc.proofs.{LastStateLemmas.sound-turns, NextUnitLemmas.next-waits}
+use Rattle.aeth_alloc.proofs.{SoundLemmas.IsSound, TriedLemmas.tried-none}
+use Rattle.aeth_alloc.proofs.{TurnLemmas.after_turns-next, UnitTryLemmas.sound-one}
 
 -- What was reserved when a side of a unit was tried, which had no candidate.
 record IsWithout (design : Design) (before : Reserved) (connection : Connection) (unit : GroupUnit)

@@ -1,21 +1,17 @@
 -- The lines of seated cores: a plan's rules on seats hold of them.
-use Rattle.std.proofs.Common.{◌≡◌, ◌∙◌, ◌<◌, ◌≤◌, ◌+◌, ℕ, zero, suc, true, cond, List}
-use Rattle.std.proofs.Common.{Contains, Option, Some, None, length, refl, sym, ap, subst}
-use Rattle.std.proofs.Common.{inl, inr, arith}
-use Rattle.std.specs.Prelude.{IsSomeAnd, unwrap_or}
+use Rattle.std.proofs.Common.{◌≡◌, ◌∙◌, ◌<◌, ◌≤◌, ◌+◌, ℕ, zero, suc, true, cond, List, Contains}
+use Rattle.std.proofs.Common.{Option, Some, None, length, refl, sym, ap, subst, inl, inr, arith}
+use Rattle.std.proofs.Common.{IsSomeAnd, unwrap_or, eq-eqb, ne_eqb}
+use Rattle.std.proofs.lemmas.{Bool.and_from, Bool.cases_eq, Bool.cases_lt, Option.slice_get_past}
 use Rattle.std.specs.List.{cons_option}
-use Rattle.std.proofs.lemmas.Bool.{and_from, cases_eq, cases_lt, eq-eqb, ne_eqb}
-use Rattle.std.proofs.lemmas.Option.{slice_get_past}
 use Rattle.aeth_base.proofs.Members.{Contains-cases, Contains-nil}
-use Rattle.aeth_base.specs.declared.ids.CoreId.{CoreId}
-use Rattle.aeth_base.specs.declared.ids.NiId.{NiId}
+use Rattle.aeth_base.specs.declared.ids.{CoreId.CoreId, NiId.NiId}
 use Rattle.aeth_group.specs.declared.grant.SeatLine.{SeatLine}
 use Rattle.aeth_seats.specs.Places.{Place, seat_of, sits_on}
 use Rattle.aeth_seats.specs.Seats.{IsSeats, SeatsData}
-use Rattle.aeth_plan.specs.Making.{line_of_core, seated_cores}
+use Rattle.aeth_plan.specs.{Making.line_of_core, Making.seated_cores, Accepted.NoTwo}
+use Rattle.aeth_plan.specs.{Seated.IsOneSeat, Seated.ni_of}
 use Rattle.aeth_plan.proofs.SeatedCores.{lines_from}
-use Rattle.aeth_plan.specs.Accepted.{NoTwo}
-use Rattle.aeth_plan.specs.Seated.{IsOneSeat, ni_of}
 use Rattle.aeth_alloc.proofs.OrderedLists.{Ordered, no_two-ordered}
 
 -- A core sits on an interface.

@@ -1,7 +1,6 @@
 -- A core comes to sit on an interface: seats stay seats, and who sat somewhere stays there.
 use Rattle.std.proofs.Common.{◌≡◌, ◌≢◌, ◌∙◌, ◌<◌, ℕ, true, List, [], Contains, Option, Some, None}
-use Rattle.std.proofs.Common.{length, refl, sym, subst, inl, inr}
-use Rattle.std.specs.Prelude.{IsSomeAnd}
+use Rattle.std.proofs.Common.{length, refl, sym, subst, inl, inr, IsSomeAnd}
 use Rattle.std.proofs.lemmas.Bool.{cases_eq}
 use Rattle.aeth_base.proofs.Members.{Contains-cases, Contains-nil}
 use Rattle.aeth_base.specs.declared.ids.NiId.{NiId}

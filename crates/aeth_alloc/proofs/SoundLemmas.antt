@@ -1,43 +1,31 @@
 -- What holds of all that is reserved: a book of the chip, seats, and grants that keep a plan's rules.
 -- It holds before the first turn, and where a channel is granted.
-use Rattle.std.proofs.Common.{◌≡◌, ◌≢◌, ◌<◌, ◌+◌, ◌-◌, ℕ, List, Contains, Some, length}
-use Rattle.std.proofs.Common.{get_or, slice_get, sym, subst, inl, inr}
-use Rattle.std.specs.Prelude.{AllPairs}
+use Rattle.std.proofs.Common.{◌≡◌, ◌≢◌, ◌<◌, ◌+◌, ◌-◌, ℕ, List, Contains, Some, length, get_or}
+use Rattle.std.proofs.Common.{slice_get, sym, subst, inl, inr, AllPairs}
 use Rattle.std.proofs.lemmas.List.Elements.{Contains-get_or, Contains-push_cases}
 use Rattle.std.proofs.lemmas.List.Quantifiers.{all_pairs_push}
 use Rattle.aeth_base.proofs.Members.{map-Contains}
-use Rattle.aeth_base.specs.declared.ids.NiId.{NiId}
-use Rattle.aeth_base.specs.declared.ids.Side.{Side}
-use Rattle.aeth_base.specs.declared.ids.Unit.{Unit as GroupUnit}
-use Rattle.aeth_slots.specs.Choice.{IsSuitable, sublists}
-use Rattle.aeth_slots.specs.SlotSet.{Ascends, Slots}
-use Rattle.aeth_slots.proofs.Sublists.{sublist-ascends}
-use Rattle.aeth_slots.proofs.TestLemmas.{Ascends-where}
-use Rattle.aeth_slots.proofs.ChoiceLemmas.{chosen-some}
-use Rattle.aeth_chip.specs.Paths.{IsAdmissible, path_delay}
-use Rattle.aeth_chip.specs.declared.node.Link.{Link}
-use Rattle.aeth_app.specs.App.{IsApp, IsConnection, wish_of}
-use Rattle.aeth_app.specs.Rates.{need_of}
-use Rattle.aeth_app.specs.declared.connection.Connection.{Connection}
-use Rattle.aeth_app.specs.Connections.{receiver, sender}
-use Rattle.aeth_group.specs.Members.{GroupsData, units_of}
-use Rattle.aeth_group.specs.declared.grant.Grant.{Grant}
+use Rattle.aeth_base.specs.declared.ids.{NiId.NiId, Side.Side, Unit.Unit as GroupUnit}
+use Rattle.aeth_slots.specs.{Choice.IsSuitable, Choice.sublists, SlotSet.Ascends, SlotSet.Slots}
+use Rattle.aeth_slots.proofs.{Sublists.sublist-ascends, TestLemmas.Ascends-where}
+use Rattle.aeth_slots.proofs.{ChoiceLemmas.chosen-some}
+use Rattle.aeth_chip.specs.{Paths.IsAdmissible, Paths.path_delay, declared.node.Link.Link}
+use Rattle.aeth_app.specs.{App.IsApp, App.IsConnection, App.wish_of, Rates.need_of}
+use Rattle.aeth_app.specs.{declared.connection.Connection.Connection, Connections.receiver}
+use Rattle.aeth_app.specs.{Connections.sender}
+use Rattle.aeth_group.specs.{Members.GroupsData, Members.units_of, declared.grant.Grant.Grant}
 use Rattle.aeth_group.proofs.ListLemmas.{all_at}
-use Rattle.aeth_book.specs.Book.{IsBook}
-use Rattle.aeth_book.specs.Free.{free_starts, is_open}
+use Rattle.aeth_book.specs.{Book.IsBook, Free.free_starts, Free.is_open}
 use Rattle.aeth_seats.specs.Seats.{IsSeats, SeatsData, candidates_of, crowded_of}
-use Rattle.aeth_plan.specs.Making.{AreApart}
-use Rattle.aeth_plan.specs.Accepted.{gap_for}
-use Rattle.aeth_paths.specs.declared.request.Found.{Found}
-use Rattle.aeth_paths.specs.declared.request.Request.{Request}
+use Rattle.aeth_plan.specs.{Making.AreApart, Accepted.gap_for}
+use Rattle.aeth_paths.specs.declared.request.{Found.Found, Request.Request}
 use Rattle.aeth_alloc.specs.Channels.{Design, Reserved, grant_of, request_of, with_found}
 use Rattle.aeth_alloc.specs.Holds.{IsCandidateFor, IsReservedOf}
-use Rattle.aeth_alloc.proofs.GrantLemmas.{candidate-free, candidate-links, candidate-size}
-use Rattle.aeth_alloc.proofs.SeatLineLemmas.{SitsOn}
-use Rattle.aeth_alloc.proofs.SeatedLemmas.{AreKept, AreSeated, both-seated}
-use Rattle.aeth_alloc.proofs.StepLemmas.{ends-of}
-use Rattle.aeth_alloc.proofs.TurnLemmas.{reserved-found}
-use Rattle.aeth_alloc.proofs.WithGrantLemmas.{book-with_grant}
+use Rattle.aeth_alloc.proofs.{GrantLemmas.candidate-free, GrantLemmas.candidate-links}
+use Rattle.aeth_alloc.proofs.{GrantLemmas.candidate-size, SeatLineLemmas.SitsOn}
+use Rattle.aeth_alloc.proofs.{SeatedLemmas.AreKept, SeatedLemmas.AreSeated}
+use Rattle.aeth_alloc.proofs.{SeatedLemmas.both-seated, StepLemmas.ends-of}
+use Rattle.aeth_alloc.proofs.{TurnLemmas.reserved-found, WithGrantLemmas.book-with_grant}
 
 -- A grant keeps a plan's rules: it is of a unit, its path is admissible between the interfaces where
 -- the connection's cores sit, and its slots are suitable.

@@ -1,23 +1,19 @@
 -- What holds of every state between turns: all that is reserved is sound, each unit waits, or has
 -- both its grants, or is refused, and nothing of a refused unit is left.
-use Rattle.std.proofs.Common.{◌≡◌, ◌≢◌, ◌∙◌, ◌⊎◌, ◌++◌, ℕ, List, [], Contains}
-use Rattle.std.proofs.Common.{Option, Some, None, not, refl, sym, ap, subst, inl, inr}
-use Rattle.std.proofs.lemmas.Bool.{both_ways, cases_Bool}
-use Rattle.std.proofs.lemmas.List.Elements.{Contains-append_cases, Contains-append_left}
-use Rattle.std.proofs.lemmas.List.Elements.{Contains-push}
+use Rattle.std.proofs.Common.{◌≡◌, ◌≢◌, ◌∙◌, ◌⊎◌, ◌++◌, ℕ, List, [], Contains, Option, Some, None}
+use Rattle.std.proofs.Common.{not, refl, sym, ap, subst, inl, inr}
+use Rattle.std.proofs.lemmas.{Bool.both_ways, Bool.cases_Bool, List.Elements.Contains-append_cases}
+use Rattle.std.proofs.lemmas.{List.Elements.Contains-append_left, List.Elements.Contains-push}
 use Rattle.aeth_base.proofs.Members.{Contains-cases, Contains-filter, Contains-nil, filter-Contains}
-use Rattle.aeth_base.specs.declared.ids.Side.{Side}
-use Rattle.aeth_base.specs.declared.ids.Unit.{Unit as GroupUnit}
+use Rattle.aeth_base.specs.declared.ids.{Side.Side, Unit.Unit as GroupUnit}
 use Rattle.aeth_chip.specs.Chip.{IsChip}
 use Rattle.aeth_app.specs.App.{IsApp}
-use Rattle.aeth_group.specs.Members.{GroupsData, units_of}
-use Rattle.aeth_group.specs.declared.grant.Grant.{Grant}
+use Rattle.aeth_group.specs.{Members.GroupsData, Members.units_of, declared.grant.Grant.Grant}
 use Rattle.aeth_order.specs.Units.{is_unit, next_unit, without_unit}
 use Rattle.aeth_order.specs.declared.keys.UnitKeys.{UnitKeys}
-use Rattle.aeth_alloc.specs.Channels.{Design}
-use Rattle.aeth_alloc.specs.Turns.{State, UnitTry, after_turn, after_turn_of, refusals_of}
-use Rattle.aeth_alloc.specs.Turns.{unit_tried, with_unit}
-use Rattle.aeth_alloc.specs.declared.outcome.Refused.{Refused}
+use Rattle.aeth_alloc.specs.{Channels.Design, Turns.State, Turns.UnitTry, Turns.after_turn}
+use Rattle.aeth_alloc.specs.{Turns.after_turn_of, Turns.refusals_of, Turns.unit_tried}
+use Rattle.aeth_alloc.specs.{Turns.with_unit, declared.outcome.Refused.Refused}
 use Rattle.aeth_alloc.proofs.NextUnitLemmas.{Waits, is-unit, next-waits, unit-is}
 use Rattle.aeth_alloc.proofs.SoundLemmas.{IsSound}
 use Rattle.aeth_alloc.proofs.UnitTryLemmas.{IsFor, IsUnitTry, try-of-unit}

@@ -1,20 +1,14 @@
 -- A channel's try, step by step: what is found is granted, and then the cores sit.
-use Rattle.std.proofs.Common.{◌≡◌, ◌≢◌, ◌∙◌, ◌<◌, ℕ, true, Option, None, Some, length, slice_get, sym}
-use Rattle.std.proofs.Common.{ap, subst}
-use Rattle.std.specs.Prelude.{IfSome, option_map}
-use Rattle.aeth_base.specs.declared.ids.CoreId.{CoreId}
-use Rattle.aeth_base.specs.declared.ids.NiId.{NiId}
-use Rattle.aeth_base.specs.declared.ids.Side.{Side}
-use Rattle.aeth_base.specs.declared.ids.Side.TheVariants.{Back, Fwd}
-use Rattle.aeth_base.specs.declared.ids.Unit.{Unit as GroupUnit}
-use Rattle.aeth_app.specs.App.{IsConnection}
-use Rattle.aeth_app.specs.declared.connection.Connection.{Connection}
-use Rattle.aeth_app.specs.Connections.{receiver, sender}
+use Rattle.std.proofs.Common.{◌≡◌, ◌≢◌, ◌∙◌, ◌<◌, ℕ, true, Option, None, Some, length, slice_get}
+use Rattle.std.proofs.Common.{sym, ap, subst, IfSome, option_map}
+use Rattle.aeth_base.specs.declared.ids.{CoreId.CoreId, NiId.NiId, Side.Side, Side.TheVariants.Back}
+use Rattle.aeth_base.specs.declared.ids.{Side.TheVariants.Fwd, Unit.Unit as GroupUnit}
+use Rattle.aeth_app.specs.{App.IsConnection, declared.connection.Connection.Connection}
+use Rattle.aeth_app.specs.{Connections.receiver, Connections.sender}
 use Rattle.aeth_book.specs.Book.{BookData, with_grant}
 use Rattle.aeth_seats.specs.Places.{has_free, seat_of}
 use Rattle.aeth_seats.specs.Seats.{SeatsData, candidates_of, crowded_of}
-use Rattle.aeth_paths.specs.Candidates.{IsAllowed}
-use Rattle.aeth_paths.specs.declared.request.Found.{Found}
+use Rattle.aeth_paths.specs.{Candidates.IsAllowed, declared.request.Found.Found}
 use Rattle.aeth_alloc.specs.Channels.{Design, Reserved, first_for, grant_of, tried, tried_by}
 use Rattle.aeth_alloc.specs.Channels.{with_found, with_seat}
 use Rattle.aeth_alloc.specs.Holds.{IsCandidateFor, IsReservedOf}

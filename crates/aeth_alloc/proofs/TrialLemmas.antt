@@ -1,34 +1,28 @@
 -- The trials of an allocation: each is one on the chip, none has a candidate, and they tell of the
 -- refusals one by one.
-use Rattle.std.proofs.Common.{◌≡◌, ◌∙◌, ◌<◌, ◌≤◌, ◌+◌, ◌++◌, ℕ, zero, suc, List, [], ◌∷◌, Contains, Option}
-use Rattle.std.proofs.Common.{None, Some, length, map, refl, sym, ap, subst, arith, All}
-use Rattle.std.proofs.Common.{Bool, true, false, cond, ◌&&◌}
-use Rattle.std.specs.Prelude.{IfSome, is_none, option_and_then, option_map, option_to_list}
-use Rattle.std.specs.List.{cons_option, filter_map, range_with_len}
-use Rattle.std.proofs.lemmas.List.{map-append}
-use Rattle.std.proofs.lemmas.List.Elements.{Contains-get_or, filter_map-append}
+use Rattle.std.proofs.Common.{◌≡◌, ◌∙◌, ◌<◌, ◌≤◌, ◌+◌, ◌++◌, ℕ, zero, suc, List, [], ◌∷◌, Contains}
+use Rattle.std.proofs.Common.{Option, None, Some, length, map, refl, sym, ap, subst, arith, All}
+use Rattle.std.proofs.Common.{Bool, true, false, cond, ◌&&◌, IfSome, is_none, option_and_then}
+use Rattle.std.proofs.Common.{option_map, option_to_list}
+use Rattle.std.proofs.lemmas.List.{map-append, Elements.Contains-get_or, Elements.filter_map-append}
 use Rattle.std.proofs.lemmas.Option.{none-some, same_Some}
+use Rattle.std.specs.List.{cons_option, filter_map, range_with_len}
 use Rattle.aeth_base.proofs.Members.{Contains-slice_get, filter_map-Contains}
 use Rattle.aeth_base.proofs.Ranges.{range-Contains, range_with_len-more}
-use Rattle.aeth_base.specs.declared.ids.NiId.{NiId}
-use Rattle.aeth_base.specs.declared.ids.Side.{Side}
-use Rattle.aeth_base.specs.declared.ids.Side.TheVariants.{Back, Fwd}
-use Rattle.aeth_base.specs.declared.ids.Unit.{Unit as GroupUnit}
-use Rattle.aeth_chip.specs.Chip.{IsChip}
-use Rattle.aeth_chip.specs.declared.node.Link.{Link}
-use Rattle.aeth_app.specs.App.{IsApp, IsAppOf}
-use Rattle.aeth_app.specs.Limits.{seats_per_ni}
-use Rattle.aeth_app.specs.declared.connection.Connection.{Connection}
-use Rattle.aeth_app.specs.Connections.{receiver, sender}
+use Rattle.aeth_base.specs.declared.ids.{NiId.NiId, Side.Side, Side.TheVariants.Back}
+use Rattle.aeth_base.specs.declared.ids.{Side.TheVariants.Fwd, Unit.Unit as GroupUnit}
+use Rattle.aeth_chip.specs.{Chip.IsChip, declared.node.Link.Link}
+use Rattle.aeth_app.specs.{App.IsApp, App.IsAppOf, Limits.seats_per_ni}
+use Rattle.aeth_app.specs.{declared.connection.Connection.Connection, Connections.receiver}
+use Rattle.aeth_app.specs.{Connections.sender}
 use Rattle.aeth_group.specs.Members.{GroupsData, groups_of, units_of}
 use Rattle.aeth_book.specs.Book.{BookData, IsFit}
 use Rattle.aeth_order.specs.Units.{next_unit}
 use Rattle.aeth_seats.specs.Places.{Place, has_free, seat_of}
 use Rattle.aeth_seats.specs.Seats.{IsSeats, SeatsData, candidates_of, crowded_of, interfaces}
 use Rattle.aeth_seats.specs.Seats.{interfaces_from, is_crowded}
-use Rattle.aeth_paths.specs.Candidates.{IsCandidate}
-use Rattle.aeth_paths.specs.Trials.{IsTrialOf, TrialData, book_of}
-use Rattle.aeth_paths.specs.declared.request.Found.{Found}
+use Rattle.aeth_paths.specs.{Candidates.IsCandidate, Trials.IsTrialOf, Trials.TrialData}
+use Rattle.aeth_paths.specs.{Trials.book_of, declared.request.Found.Found}
 use Rattle.aeth_alloc.specs.Allocation.{after_turns, last_state}
 use Rattle.aeth_alloc.specs.Channels.{Design, Reserved, request_of}
 use Rattle.aeth_alloc.specs.Refusals.{HasNoCandidate, IsBeforeTry, IsRefused}
@@ -36,14 +30,11 @@ use Rattle.aeth_alloc.specs.Trials.{refusal_by, refusal_in, refused_of, reserved
 use Rattle.aeth_alloc.specs.Trials.{trial_for, trial_of, trials_of}
 use Rattle.aeth_alloc.specs.Turns.{State, after_turn, unit_tried}
 use Rattle.aeth_alloc.specs.declared.outcome.Refused.{Refused}
-use Rattle.aeth_alloc.proofs.LastStateLemmas.{sound-turns}
-use Rattle.aeth_alloc.proofs.NextUnitLemmas.{next-waits}
-use Rattle.aeth_alloc.proofs.PlaceLemmas.{interface-passes}
-use Rattle.aeth_alloc.proofs.RefusalLemmas.{refused-turns}
-use Rattle.aeth_alloc.proofs.SoundLemmas.{IsSound}
-use Rattle.aeth_alloc.proofs.TryLemmas.{refusal-listed, refused-grows}
-use Rattle.aeth_alloc.proofs.TurnLemmas.{after_turns-next}
-use Rattle.aeth_alloc.proofs.UnitTryLemmas.{sound-one}
+use Rattle.aeth_alloc.proofs.{LastStateLemmas.sound-turns, NextUnitLemmas.next-waits}
+use Rattle.aeth_alloc.proofs.{PlaceLemmas.interface-passes, RefusalLemmas.refused-turns}
+use Rattle.aeth_alloc.proofs.{SoundLemmas.IsSound, TryLemmas.refusal-listed}
+use Rattle.aeth_alloc.proofs.{TryLemmas.refused-grows, TurnLemmas.after_turns-next}
+use Rattle.aeth_alloc.proofs.{UnitTryLemmas.sound-one}
 
 -- ---- lists
 

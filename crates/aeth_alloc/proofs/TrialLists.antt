@@ -1,16 +1,15 @@
 -- The lists of interfaces of a try: they ascend, and where both cores of a channel sit each of its
 -- lists has the interface of one, and none is crowded.
-use Rattle.std.proofs.Common.{◌≡◌, ◌+◌, ◌<◌, ◌&&◌, ℕ, Bool, true, false, List, [], ◌∷◌, Option, None, Some}
-use Rattle.std.proofs.Common.{cond, filter, map, refl, sym, ap, subst, arith}
-use Rattle.std.specs.List.{range_with_len}
-use Rattle.std.specs.List.Sorted.{IsStrictlyIncreasing}
-use Rattle.std.specs.Prelude.{IsSomeAnd, is_none}
+use Rattle.std.proofs.Common.{◌≡◌, ◌+◌, ◌<◌, ◌&&◌, ℕ, Bool, true, false, List, [], ◌∷◌, Option}
+use Rattle.std.proofs.Common.{None, Some, cond, filter, map, refl, sym, ap, subst, arith, IsSomeAnd}
+use Rattle.std.proofs.Common.{is_none}
 use Rattle.std.proofs.lemmas.List.FromFn.{get_or-range_with_len, length-range_with_len}
 use Rattle.std.proofs.lemmas.List.Kept.{IsStrictlyIncreasing-filter}
+use Rattle.std.specs.List.{range_with_len, Sorted.IsStrictlyIncreasing}
 use Rattle.aeth_base.specs.declared.ids.NiId.{NiId}
 use Rattle.aeth_seats.specs.Places.{Place, has_free, seat_of}
-use Rattle.aeth_seats.specs.Seats.{SeatsData, candidates_of, crowded_of, interfaces, interfaces_from}
-use Rattle.aeth_seats.specs.Seats.{is_crowded}
+use Rattle.aeth_seats.specs.Seats.{SeatsData, candidates_of, crowded_of, interfaces}
+use Rattle.aeth_seats.specs.Seats.{interfaces_from, is_crowded}
 use Rattle.aeth_paths.specs.Trials.{Ascend}
 use Rattle.aeth_alloc.proofs.SeatLineLemmas.{SitsOn}
 

@@ -1,19 +1,16 @@
 -- What a channel's try comes to: a candidate that is granted, or there is none.
-use Rattle.std.proofs.Common.{◌≡◌, Option, Some, None, slice_get, refl, sym, ap, ◌∙◌}
-use Rattle.std.specs.Prelude.{option_map}
+use Rattle.std.proofs.Common.{◌≡◌, Option, Some, None, slice_get, refl, sym, ap, ◌∙◌, option_map}
 use Rattle.std.proofs.lemmas.Option.{none-some, same_Some}
-use Rattle.aeth_base.specs.declared.ids.Side.{Side}
-use Rattle.aeth_base.specs.declared.ids.Unit.{Unit as GroupUnit}
+use Rattle.aeth_base.specs.declared.ids.{Side.Side, Unit.Unit as GroupUnit}
 use Rattle.aeth_chip.specs.Chip.{IsChip}
 use Rattle.aeth_app.specs.declared.connection.Connection.{Connection}
 use Rattle.aeth_app.specs.Connections.{receiver, sender}
 use Rattle.aeth_book.specs.Book.{IsBook}
 use Rattle.aeth_seats.specs.Seats.{candidates_of, crowded_of}
 use Rattle.aeth_paths.specs.declared.request.Found.{Found}
-use Rattle.aeth_alloc.specs.Channels.{Design, Reserved, first_for, request_of, tried, tried_by}
-use Rattle.aeth_alloc.specs.Channels.{with_found}
-use Rattle.aeth_alloc.specs.Holds.{IsCandidateFor}
-use Rattle.aeth_alloc.specs.Refusals.{HasNoCandidate}
+use Rattle.aeth_alloc.specs.{Channels.Design, Channels.Reserved, Channels.first_for}
+use Rattle.aeth_alloc.specs.{Channels.request_of, Channels.tried, Channels.tried_by}
+use Rattle.aeth_alloc.specs.{Channels.with_found, Holds.IsCandidateFor, Refusals.HasNoCandidate}
 use Rattle.aeth_alloc.proofs.FirstCandidateLemmas.{first_candidate-is, first_candidate-no}
 
 -- A channel's try was granted: what is reserved then is what a candidate leaves.

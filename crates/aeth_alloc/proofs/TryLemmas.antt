@@ -1,28 +1,21 @@
 -- Tries of refusals: that of a `back` channel beside the `fwd` channel of its unit, and what a refusal
 -- leaves.
-use Rattle.std.proofs.Common.{◌≡◌, ◌∙◌, ◌<◌, ◌++◌, ℕ, List, [], ◌∷◌, Option, None}
-use Rattle.std.proofs.Common.{Some, length, take, refl, sym, ap, subst}
-use Rattle.std.specs.Prelude.{Err, IfOk, Ok, Result, option_and_then, option_map, option_to_list}
-use Rattle.std.specs.Prelude.{slice_get}
+use Rattle.std.proofs.Common.{◌≡◌, ◌∙◌, ◌<◌, ◌++◌, ℕ, List, [], ◌∷◌, Option, None, Some, length}
+use Rattle.std.proofs.Common.{take, refl, sym, ap, subst, Err, IfOk, Ok, Result, option_and_then}
+use Rattle.std.proofs.Common.{option_map, option_to_list, slice_get, append-nil}
 use Rattle.std.proofs.Math.Seq.{take-length}
-use Rattle.std.proofs.lemmas.List.{append-nil}
 use Rattle.std.proofs.lemmas.Option.{none-some, same_Some}
-use Rattle.aeth_base.specs.declared.ids.Side.{Side}
-use Rattle.aeth_base.specs.declared.ids.Side.TheVariants.{Back, Fwd}
+use Rattle.aeth_base.specs.declared.ids.Side.{Side, TheVariants.Back, TheVariants.Fwd}
 use Rattle.aeth_base.specs.declared.ids.Unit.{Unit as GroupUnit}
-use Rattle.aeth_app.specs.App.{IsConnection}
-use Rattle.aeth_app.specs.declared.connection.Connection.{Connection}
+use Rattle.aeth_app.specs.{App.IsConnection, declared.connection.Connection.Connection}
 use Rattle.aeth_order.specs.Units.{next_unit}
 use Rattle.aeth_seats.specs.Seats.{IsSeats}
-use Rattle.aeth_paths.specs.declared.request.Found.{Found}
-use Rattle.aeth_alloc.specs.Channels.{Design, Reserved, grant_of, request_of, tried}
-use Rattle.aeth_alloc.specs.Channels.{with_found}
+use Rattle.aeth_paths.specs.{declared.request.Found.Found, Trials.TrialData}
+use Rattle.aeth_alloc.specs.Channels.{Design, Reserved, grant_of, request_of, tried, with_found}
 use Rattle.aeth_alloc.specs.Holds.{IsCandidateFor, IsReservedOf}
-use Rattle.aeth_paths.specs.Trials.{TrialData}
 use Rattle.aeth_alloc.specs.Trials.{refusal_by, refusal_in, trial_for, trial_in, trial_of}
 use Rattle.aeth_alloc.specs.Tries.{TryData, trial_over}
-use Rattle.aeth_alloc.specs.Turns.{State, after_turn, after_turn_of}
-use Rattle.aeth_alloc.specs.Turns.{refusals_of, unit_tried}
+use Rattle.aeth_alloc.specs.Turns.{State, after_turn, after_turn_of, refusals_of, unit_tried}
 use Rattle.aeth_alloc.specs.declared.outcome.Refused.{Refused}
 use Rattle.aeth_alloc.proofs.RefusalLemmas.{kept-fwd}
 use Rattle.aeth_alloc.proofs.SeatedLemmas.{AreSeated, both-seated}

@@ -1,28 +1,21 @@
 -- What holds of every state between turns.
-use Rattle.std.proofs.Common.{◌≡◌, ◌∙◌, ◌+◌, ◌++◌, ◌<◌, ℕ, zero, suc, List, Contains, Option, Some, None}
-use Rattle.std.proofs.Common.{length, not, refl, sym, ap, subst, arith}
-use Rattle.std.specs.Prelude.{option_map, slice_get}
-use Rattle.std.proofs.lemmas.List.{length-map}
-use Rattle.std.proofs.lemmas.Option.{none-some, same_Some}
-use Rattle.aeth_group.proofs.MemberLemmas.{connections-groups_of}
+use Rattle.std.proofs.Common.{◌≡◌, ◌∙◌, ◌+◌, ◌++◌, ◌<◌, ℕ, zero, suc, List, Contains, Option, Some}
+use Rattle.std.proofs.Common.{None, length, not, refl, sym, ap, subst, arith, option_map, slice_get}
+use Rattle.std.proofs.lemmas.{List.length-map, Option.none-some, Option.same_Some}
+use Rattle.aeth_group.proofs.{MemberLemmas.connections-groups_of, UnitLemmas.unit_from_units}
+use Rattle.aeth_group.specs.Members.{GroupsData, groups_of, units_of}
 use Rattle.aeth_base.proofs.Members.{filter-Contains, map-Contains}
-use Rattle.aeth_base.specs.declared.ids.NiId.{NiId}
-use Rattle.aeth_base.specs.declared.ids.Side.{Side}
-use Rattle.aeth_base.specs.declared.ids.Side.TheVariants.{Back, Fwd}
-use Rattle.aeth_base.specs.declared.ids.Unit.{Unit as GroupUnit}
+use Rattle.aeth_base.specs.declared.ids.{NiId.NiId, Side.Side, Side.TheVariants.Back}
+use Rattle.aeth_base.specs.declared.ids.{Side.TheVariants.Fwd, Unit.Unit as GroupUnit}
 use Rattle.aeth_chip.specs.Chip.{IsChip}
 use Rattle.aeth_app.specs.App.{AppData, IsApp, IsAppOf}
 use Rattle.aeth_app.specs.declared.connection.Connection.{Connection}
 use Rattle.aeth_app.specs.Connections.{receiver, sender}
-use Rattle.aeth_group.specs.Members.{GroupsData, groups_of, units_of}
-use Rattle.aeth_group.proofs.UnitLemmas.{unit_from_units}
 use Rattle.aeth_order.specs.Units.{UnitsData, all_units, is_unit, keys_by, keys_of, next_unit}
 use Rattle.aeth_order.specs.Units.{without_unit}
 use Rattle.aeth_order.specs.declared.keys.UnitKeys.{UnitKeys}
-use Rattle.aeth_seats.specs.Places.{Place, lowest_free, seat_of}
-use Rattle.aeth_seats.specs.Seats.{SeatsData}
-use Rattle.aeth_seats.proofs.FirstLemmas.{seats-of-app}
-use Rattle.aeth_seats.proofs.SeatingLemmas.{length-placed_on}
+use Rattle.aeth_seats.specs.{Places.Place, Places.lowest_free, Places.seat_of, Seats.SeatsData}
+use Rattle.aeth_seats.proofs.{FirstLemmas.seats-of-app, SeatingLemmas.length-placed_on}
 use Rattle.aeth_paths.specs.declared.request.Found.{Found}
 use Rattle.aeth_alloc.specs.Channels.{Design, Reserved, first_for, tried, tried_by, with_found}
 use Rattle.aeth_alloc.specs.Channels.{with_seat, with_seat_by}

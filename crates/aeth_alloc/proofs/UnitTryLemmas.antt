@@ -1,15 +1,13 @@
 -- What comes of a unit's try: it is refused, and nothing is changed, or both its channels are granted.
 use Rattle.std.proofs.Common.{◌≡◌, ◌≢◌, ◌∙◌, ◌⊎◌, ◌++◌, List, [], ◌∷◌, Contains, Option, Some, None}
 use Rattle.std.proofs.Common.{refl, sym, ap, subst, inl, inr}
-use Rattle.std.proofs.lemmas.List.Elements.{Contains-append_left, Contains-push, Contains-push_cases}
-use Rattle.std.proofs.lemmas.Option.{none-some}
-use Rattle.aeth_base.specs.declared.ids.Side.{Side}
-use Rattle.aeth_base.specs.declared.ids.Side.TheVariants.{Back, Fwd}
+use Rattle.std.proofs.lemmas.{List.Elements.Contains-append_left, List.Elements.Contains-push}
+use Rattle.std.proofs.lemmas.{List.Elements.Contains-push_cases, Option.none-some}
+use Rattle.aeth_base.specs.declared.ids.Side.{Side, TheVariants.Back, TheVariants.Fwd}
 use Rattle.aeth_base.specs.declared.ids.Unit.{Unit as GroupUnit}
 use Rattle.aeth_chip.specs.Chip.{IsChip}
 use Rattle.aeth_app.specs.App.{IsApp}
-use Rattle.aeth_group.specs.Members.{GroupsData, units_of}
-use Rattle.aeth_group.specs.declared.grant.Grant.{Grant}
+use Rattle.aeth_group.specs.{Members.GroupsData, Members.units_of, declared.grant.Grant.Grant}
 use Rattle.aeth_alloc.specs.Channels.{Design, Reserved, grant_of, tried}
 use Rattle.aeth_alloc.specs.Turns.{UnitTry, after_back, after_fwd, unit_tried}
 use Rattle.aeth_alloc.proofs.SoundLemmas.{IsSound, sound-found}

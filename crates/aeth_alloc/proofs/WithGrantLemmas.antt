@@ -1,17 +1,13 @@
 -- A book with one more grant whose starts are free is a book.
-use Rattle.std.proofs.Common.{◌≡◌, ◌∙◌, ◌<◌, ◌≤◌, ◌+◌, ◌%◌, ℕ, All, Contains, get_or, length}
-use Rattle.std.proofs.Common.{sym, ap, subst, true, arith}
-use Rattle.std.proofs.lemmas.Bool.{and_from, eq-eqb}
-use Rattle.std.proofs.lemmas.List.Elements.{All-push, Contains-get_or}
-use Rattle.std.proofs.lemmas.List.Quantifiers.{all_pairs_push}
+use Rattle.std.proofs.Common.{◌≡◌, ◌∙◌, ◌<◌, ◌≤◌, ◌+◌, ◌%◌, ℕ, All, Contains, get_or, length, sym}
+use Rattle.std.proofs.Common.{ap, subst, true, arith, eq-eqb}
+use Rattle.std.proofs.lemmas.{Bool.and_from, List.Elements.All-push, List.Elements.Contains-get_or}
+use Rattle.std.proofs.lemmas.{List.Quantifiers.all_pairs_push}
 use Rattle.aeth_base.specs.declared.ids.LinkId.{LinkId}
-use Rattle.aeth_chip.specs.Chip.{ChipData, IsChip}
-use Rattle.aeth_chip.specs.Paths.{offset}
+use Rattle.aeth_chip.specs.{Chip.ChipData, Chip.IsChip, Paths.offset}
 use Rattle.aeth_app.specs.Limits.{max_uses}
-use Rattle.aeth_group.specs.Conflict.{Conflict}
-use Rattle.aeth_group.specs.Members.{GroupsData, are_together}
-use Rattle.aeth_group.specs.Occupation.{Occupies}
-use Rattle.aeth_group.specs.declared.grant.Grant.{Grant}
+use Rattle.aeth_group.specs.{Conflict.Conflict, Members.GroupsData, Members.are_together}
+use Rattle.aeth_group.specs.{Occupation.Occupies, declared.grant.Grant.Grant}
 use Rattle.aeth_group.proofs.ConflictLemmas.{conflict_from_held}
 use Rattle.aeth_book.specs.Book.{AreApart, BookData, IsBook, IsFit, empty_book, with_grant}
 use Rattle.aeth_book.specs.Free.{free_starts, is_rival}

@@ -8,23 +8,19 @@
 --   after_turns, last_state      after so many turns, and after the last
 --   grants_for, in_order      grants in the order of a plan
 --   OutcomeData, outcome_of, allocation      the plan and the refusals
-use Rattle.std.specs.Prelude.{ℕ, zero, suc, ◌++◌, List, [], filter, length}
+use Rattle.std.proofs.Common.{ℕ, zero, suc, ◌++◌, List, [], filter, length}
 use Rattle.std.specs.List.{flat_map}
 use Rattle.aeth_base.specs.declared.ids.Side.TheVariants.{Fwd, Back}
 use Rattle.aeth_base.specs.declared.ids.Unit.{Unit as GroupUnit}
 use Rattle.aeth_chip.specs.Chip.{ChipData}
 use Rattle.aeth_app.specs.App.{AppData}
-use Rattle.aeth_group.specs.Members.{GroupsData, units_of}
-use Rattle.aeth_group.specs.declared.grant.Grant.{Grant}
+use Rattle.aeth_group.specs.{Members.GroupsData, Members.units_of, declared.grant.Grant.Grant}
 use Rattle.aeth_book.specs.Book.{empty_book}
 use Rattle.aeth_seats.specs.First.{first_seats}
 use Rattle.aeth_order.specs.Units.{first_units}
-use Rattle.aeth_plan.specs.Plan.{PlanData}
-use Rattle.aeth_plan.specs.Making.{seated_cores}
-use Rattle.aeth_plan.specs.UnitGrants.{is_for}
-use Rattle.aeth_alloc.specs.Channels.{Design}
-use Rattle.aeth_alloc.specs.Turns.{State, after_turn}
-use Rattle.aeth_alloc.specs.declared.outcome.Refused.{Refused}
+use Rattle.aeth_plan.specs.{Plan.PlanData, Making.seated_cores, UnitGrants.is_for}
+use Rattle.aeth_alloc.specs.{Channels.Design, Turns.State, Turns.after_turn}
+use Rattle.aeth_alloc.specs.{declared.outcome.Refused.Refused}
 
 -- Before the first turn: no grant, the fixed cores on their seats, all units wait, none is refused.
 abbrev pub first_state : Design → GroupsData → State

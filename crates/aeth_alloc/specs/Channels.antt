@@ -7,21 +7,17 @@
 --   first_for      the first candidate for a channel
 --   with_seat, with_found      a core takes a seat; a channel is granted what was found for it
 --   tried      a channel's try
-use Rattle.std.specs.Prelude.{ℕ, List, Option, None, Some, option_map, slice_get}
-use Rattle.aeth_base.specs.declared.ids.NiId.{NiId}
-use Rattle.aeth_base.specs.declared.ids.Side.{Side}
-use Rattle.aeth_base.specs.declared.ids.Unit.{Unit as GroupUnit}
+use Rattle.std.proofs.Common.{ℕ, List, Option, None, Some, option_map, slice_get}
+use Rattle.aeth_base.specs.declared.ids.{NiId.NiId, Side.Side, Unit.Unit as GroupUnit}
 use Rattle.aeth_chip.specs.Chip.{ChipData}
-use Rattle.aeth_app.specs.App.{AppData, wish_of}
-use Rattle.aeth_app.specs.Rates.{need_of}
-use Rattle.aeth_app.specs.declared.connection.Connection.{Connection}
-use Rattle.aeth_app.specs.Connections.{receiver, sender}
+use Rattle.aeth_app.specs.{App.AppData, App.wish_of, Rates.need_of}
+use Rattle.aeth_app.specs.{declared.connection.Connection.Connection, Connections.receiver}
+use Rattle.aeth_app.specs.{Connections.sender}
 use Rattle.aeth_group.specs.declared.grant.Grant.{Grant}
 use Rattle.aeth_book.specs.Book.{BookData, with_grant}
 use Rattle.aeth_seats.specs.Places.{Place, seat_of}
 use Rattle.aeth_seats.specs.Seats.{SeatsData, candidates_of, crowded_of, with_core}
-use Rattle.aeth_paths.specs.declared.request.Found.{Found}
-use Rattle.aeth_paths.specs.declared.request.Request.{Request}
+use Rattle.aeth_paths.specs.declared.request.{Found.Found, Request.Request}
 use Rattle.aeth_alloc.specs.FirstCandidate.{first_candidate}
 
 -- What all turns read: the chip, the application, and the table of what links cost.

@@ -6,22 +6,17 @@
 --   found_with      a path from an interface to an interface, with its slots, if there are any
 --   candidates_between, candidates      the candidates of a pair of interfaces, and of all pairs
 --   first_candidate      the first of them
-use Rattle.std.specs.Prelude.{ℕ, ◌+◌, List, [], ◌∷◌, Option, None, Some, filter, if◌then◌else◌}
-use Rattle.std.specs.List.{flat_map, range_with_len}
-use Rattle.std.specs.Ordering.{on}
-use Rattle.aeth_base.specs.declared.ids.LinkId.{LinkId}
-use Rattle.aeth_base.specs.declared.ids.NiId.{NiId}
+use Rattle.std.proofs.Common.{ℕ, ◌+◌, List, [], ◌∷◌, Option, None, Some, filter, if◌then◌else◌}
+use Rattle.std.specs.{List.flat_map, List.range_with_len, Ordering.on}
+use Rattle.aeth_base.specs.declared.ids.{LinkId.LinkId, NiId.NiId}
 use Rattle.aeth_base.specs.Limits.{max_path_links}
-use Rattle.aeth_slots.specs.Choice.{first_by}
-use Rattle.aeth_slots.specs.SlotSet.{Slots}
-use Rattle.aeth_chip.specs.Chip.{ChipData}
-use Rattle.aeth_chip.specs.LeastDistance.{link_ids, lists_of}
+use Rattle.aeth_slots.specs.{Choice.first_by, SlotSet.Slots}
+use Rattle.aeth_chip.specs.{Chip.ChipData, LeastDistance.link_ids, LeastDistance.lists_of}
 use Rattle.aeth_book.specs.Book.{BookData}
 use Rattle.aeth_check.specs.Routes.{is_admissible}
 use Rattle.aeth_paths.specs.Candidates.{link_cost, path_order, slots_of}
 use Rattle.aeth_paths.specs.Open.{is_crowded}
-use Rattle.aeth_paths.specs.declared.request.Found.{Found}
-use Rattle.aeth_paths.specs.declared.request.Request.{Request}
+use Rattle.aeth_paths.specs.declared.request.{Found.Found, Request.Request}
 
 -- All lists of at most as many links of the chip as a path may have.
 abbrev pub paths_of : ChipData → List (List LinkId)

@@ -6,26 +6,19 @@
 --   IsCandidateFor      a candidate for a channel
 --   unseated_of, MayGiveBack, given_back      seats that are given back
 --   IsWithoutLast      the last grant is taken back
-use Rattle.std.specs.Prelude.{◌≡◌, ◌<◌, IsSome, List, Option, None, Some, Contains, length}
-use Rattle.std.specs.Prelude.{if◌then◌else◌, is_none, slice_get}
-use Rattle.aeth_base.specs.declared.ids.CoreId.{CoreId}
-use Rattle.aeth_base.specs.declared.ids.Side.{Side}
-use Rattle.aeth_base.specs.declared.ids.Unit.{Unit as GroupUnit}
-use Rattle.aeth_chip.specs.Chip.{IsChip}
-use Rattle.aeth_chip.specs.declared.node.Link.{Link}
-use Rattle.aeth_app.specs.App.{IsApp, IsAppOf}
-use Rattle.aeth_app.specs.declared.connection.Connection.{Connection}
-use Rattle.aeth_app.specs.Connections.{receiver, sender}
+use Rattle.std.proofs.Common.{◌≡◌, ◌<◌, IsSome, List, Option, None, Some, Contains, length}
+use Rattle.std.proofs.Common.{if◌then◌else◌, is_none, slice_get}
+use Rattle.aeth_base.specs.declared.ids.{CoreId.CoreId, Side.Side, Unit.Unit as GroupUnit}
+use Rattle.aeth_chip.specs.{Chip.IsChip, declared.node.Link.Link}
+use Rattle.aeth_app.specs.{App.IsApp, App.IsAppOf, declared.connection.Connection.Connection}
+use Rattle.aeth_app.specs.{Connections.receiver, Connections.sender}
 use Rattle.aeth_group.specs.declared.grant.Grant.{Grant}
 use Rattle.aeth_book.specs.Book.{BookData, with_grant}
 use Rattle.aeth_order.specs.declared.keys.UnitKeys.{UnitKeys}
-use Rattle.aeth_seats.specs.First.{fixed_of}
-use Rattle.aeth_seats.specs.Places.{seat_of}
-use Rattle.aeth_seats.specs.Seats.{SeatsData, candidates_of, crowded_of, without_core}
-use Rattle.aeth_paths.specs.Candidates.{IsCandidate}
-use Rattle.aeth_paths.specs.declared.request.Found.{Found}
-use Rattle.aeth_alloc.specs.Channels.{Design, Reserved, request_of}
-use Rattle.aeth_alloc.specs.Turns.{State}
+use Rattle.aeth_seats.specs.{First.fixed_of, Places.seat_of, Seats.SeatsData, Seats.candidates_of}
+use Rattle.aeth_seats.specs.{Seats.crowded_of, Seats.without_core}
+use Rattle.aeth_paths.specs.{Candidates.IsCandidate, declared.request.Found.Found}
+use Rattle.aeth_alloc.specs.{Channels.Design, Channels.Reserved, Channels.request_of, Turns.State}
 
 -- What holds of every design: the application is one of the chip, and the least distances are those
 -- of its links.

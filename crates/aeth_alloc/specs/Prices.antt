@@ -3,10 +3,9 @@
 --   table_of      the table of the answers of a function of a link's delay and its used slots
 --   cost_by      what a link costs by each of the two prices
 --   prices_of      the table of an application's price
-use Rattle.std.specs.Prelude.{ℕ, ◌+◌, ◌/◌, ◌%◌, List, map}
+use Rattle.std.proofs.Common.{ℕ, ◌+◌, ◌/◌, ◌%◌, List, map}
 use Rattle.std.specs.List.{range_with_len}
-use Rattle.aeth_app.specs.declared.connection.Price.{Price}
-use Rattle.aeth_app.specs.declared.connection.Price.TheVariants.{Hops, Pressure}
+use Rattle.aeth_app.specs.declared.connection.Price.{Price, TheVariants.Hops, TheVariants.Pressure}
 use Rattle.aeth_paths.specs.Costs.{cost_count, used_count}
 
 -- The table of the answers of a function: a row for each delay from 1 on, with an answer for each

@@ -6,28 +6,22 @@
 --   RefusesExactly      exactly such channels have their units refused
 --   IsAmong, LacksOnlyRefused      a plan breaks no rule of an accepted plan but the one on missing
 --                                  sides, and that one for refused units alone
-use Rattle.std.specs.Prelude.{◌≡◌, ◌<◌, ◌+◌, ℕ, ◌↔◌, List, Some, Contains, length, slice_get}
-use Rattle.std.specs.Prelude.{IsTrue}
-use Rattle.aeth_base.specs.declared.ids.CoreId.{CoreId}
-use Rattle.aeth_base.specs.declared.ids.NiId.{NiId}
-use Rattle.aeth_base.specs.declared.ids.Side.{Side}
-use Rattle.aeth_base.specs.declared.ids.Side.TheVariants.{Fwd, Back}
-use Rattle.aeth_base.specs.declared.ids.Unit.{Unit as GroupUnit}
+use Rattle.std.proofs.Common.{◌≡◌, ◌<◌, ◌+◌, ℕ, ◌↔◌, List, Some, Contains, length, slice_get}
+use Rattle.std.proofs.Common.{IsTrue}
+use Rattle.aeth_base.specs.declared.ids.{CoreId.CoreId, NiId.NiId, Side.Side, Side.TheVariants.Fwd}
+use Rattle.aeth_base.specs.declared.ids.{Side.TheVariants.Back, Unit.Unit as GroupUnit}
 use Rattle.aeth_chip.specs.Chip.{ChipData}
 use Rattle.aeth_app.specs.App.{AppData}
-use Rattle.aeth_app.specs.declared.connection.Connection.{Connection}
-use Rattle.aeth_app.specs.declared.connection.Core.{Core}
-use Rattle.aeth_group.specs.Conflict.{Conflict}
-use Rattle.aeth_group.specs.Members.{GroupsData, is_member, units_of}
-use Rattle.aeth_group.specs.declared.grant.Grant.{Grant}
+use Rattle.aeth_app.specs.declared.connection.{Connection.Connection, Core.Core}
+use Rattle.aeth_group.specs.{Conflict.Conflict, Members.GroupsData, Members.is_member}
+use Rattle.aeth_group.specs.{Members.units_of, declared.grant.Grant.Grant}
 use Rattle.aeth_order.specs.Units.{next_unit}
 use Rattle.aeth_plan.specs.Accepted.{HasGrant, HasSlots, IsOnPath, NoTwo}
-use Rattle.aeth_paths.specs.declared.request.Found.{Found}
 use Rattle.aeth_plan.specs.Seated.{IsOneSeat, ni_of}
-use Rattle.aeth_alloc.specs.Channels.{Design, Reserved, tried}
-use Rattle.aeth_alloc.specs.Holds.{IsCandidateFor}
-use Rattle.aeth_alloc.specs.Allocation.{OutcomeData, after_turns}
-use Rattle.aeth_alloc.specs.declared.outcome.Refused.{Refused}
+use Rattle.aeth_paths.specs.declared.request.Found.{Found}
+use Rattle.aeth_alloc.specs.{Channels.Design, Channels.Reserved, Channels.tried}
+use Rattle.aeth_alloc.specs.{Holds.IsCandidateFor, Allocation.OutcomeData, Allocation.after_turns}
+use Rattle.aeth_alloc.specs.{declared.outcome.Refused.Refused}
 
 -- Nothing is a candidate for a channel of a connection.
 abbrev pub HasNoCandidate : Design → Reserved → Connection → GroupUnit → Side → Type 0

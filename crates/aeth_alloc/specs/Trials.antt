@@ -7,24 +7,21 @@
 --   trial_in, trial_after, trials_of      the trial of a turn, of the turn after so many, and of all
 --   earlier_count, GoesOn      how many grants of a trial were made before its turn; a later trial has these
 --   refused_of      the refusal of which a trial tells
-use Rattle.std.specs.Prelude.{ℕ, ◌≡◌, ◌≤◌, ◌+◌, ◌-◌, take, List, Option, None, Some, length, option_and_then, option_map}
-use Rattle.std.specs.Prelude.{slice_get}
+use Rattle.std.proofs.Common.{ℕ, ◌≡◌, ◌≤◌, ◌+◌, ◌-◌, take, List, Option, None, Some, length}
+use Rattle.std.proofs.Common.{option_and_then, option_map, slice_get}
 use Rattle.std.specs.List.{filter_map, range_with_len}
-use Rattle.aeth_base.specs.declared.ids.Side.{Side}
-use Rattle.aeth_base.specs.declared.ids.Side.TheVariants.{Fwd, Back}
+use Rattle.aeth_base.specs.declared.ids.Side.{Side, TheVariants.Fwd, TheVariants.Back}
 use Rattle.aeth_base.specs.declared.ids.Unit.{Unit as GroupUnit}
 use Rattle.aeth_chip.specs.Chip.{ChipData}
-use Rattle.aeth_app.specs.App.{AppData}
-use Rattle.aeth_app.specs.declared.connection.Connection.{Connection}
-use Rattle.aeth_app.specs.Connections.{receiver, sender}
+use Rattle.aeth_app.specs.{App.AppData, declared.connection.Connection.Connection}
+use Rattle.aeth_app.specs.{Connections.receiver, Connections.sender}
 use Rattle.aeth_group.specs.Members.{GroupsData, units_of}
 use Rattle.aeth_order.specs.Units.{next_unit}
 use Rattle.aeth_seats.specs.Seats.{candidates_of, crowded_of}
 use Rattle.aeth_paths.specs.Trials.{TrialData}
-use Rattle.aeth_alloc.specs.Allocation.{after_turns}
-use Rattle.aeth_alloc.specs.Channels.{Design, Reserved, request_of, tried}
-use Rattle.aeth_alloc.specs.Turns.{State, unit_tried}
-use Rattle.aeth_alloc.specs.declared.outcome.Refused.{Refused}
+use Rattle.aeth_alloc.specs.{Allocation.after_turns, Channels.Design, Channels.Reserved}
+use Rattle.aeth_alloc.specs.{Channels.request_of, Channels.tried, Turns.State, Turns.unit_tried}
+use Rattle.aeth_alloc.specs.{declared.outcome.Refused.Refused}
 
 -- What is reserved when a side of a unit is tried, if it comes to that: for `fwd` what was reserved
 -- before the turn, for `back` that and the unit's `fwd` channel.

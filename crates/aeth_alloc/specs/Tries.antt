@@ -3,11 +3,10 @@
 --
 --   TryData, IsTry, trial_over      a try without the grants, what holds of it, and the trial with them
 --   AreWithin      there are so many grants
-use Rattle.std.specs.Prelude.{ℕ, ◌++◌, ◌≤◌, List, All, Option, option_to_list, take}
+use Rattle.std.proofs.Common.{ℕ, ◌++◌, ◌≤◌, List, All, Option, option_to_list, take}
 use Rattle.aeth_base.specs.declared.ids.NiId.{NiId}
 use Rattle.aeth_group.specs.declared.grant.Grant.{Grant}
-use Rattle.aeth_paths.specs.Trials.{Ascend, TrialData}
-use Rattle.aeth_paths.specs.declared.request.Request.{Request}
+use Rattle.aeth_paths.specs.{Trials.Ascend, Trials.TrialData, declared.request.Request.Request}
 
 -- A try: what is asked, its turn, how many grants were made before its unit's turn, the `fwd` grant of
 -- the unit where it is the `back` channel that was tried, and the lists of interfaces.

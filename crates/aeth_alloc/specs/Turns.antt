@@ -7,9 +7,8 @@
 --   State      what was reserved, the units that wait, and the refusals so far
 --   refusals_of      the refusal of a unit, if it is refused
 --   after_turn      the state after one turn more
-use Rattle.std.specs.Prelude.{ℕ, ◌++◌, List, [], ◌∷◌, Option, None, Some}
-use Rattle.aeth_base.specs.declared.ids.Side.{Side}
-use Rattle.aeth_base.specs.declared.ids.Side.TheVariants.{Fwd, Back}
+use Rattle.std.proofs.Common.{ℕ, ◌++◌, List, [], ◌∷◌, Option, None, Some}
+use Rattle.aeth_base.specs.declared.ids.Side.{Side, TheVariants.Fwd, TheVariants.Back}
 use Rattle.aeth_base.specs.declared.ids.Unit.{Unit as GroupUnit}
 use Rattle.aeth_order.specs.Units.{UnitsData, next_unit, without_unit}
 use Rattle.aeth_alloc.specs.Channels.{Design, Reserved, tried}

@@ -1,14 +1,11 @@
 -- Laws of files that are read and judged, one after the other.
-use Rattle.std.proofs.Common.{◌≡◌, ◌≢◌, ◌≤◌, ◌<◌, IfOk, ℕ, List, length, Option, Some, Result, Ok, Err}
-use Rattle.std.proofs.Common.{zero, suc, ◌+◌, ◌∙◌, [], ◌∷◌, None, ap, refl, subst, arith}
-use Rattle.std.proofs.Common.{if◌then◌else◌}
-use Rattle.std.specs.Prelude.{nat_le}
-use Rattle.std.proofs.lemmas.Bool.{le-leb, lt-leb}
-use Rattle.aeth_base.specs.Faults.{BrokenRule, Reads}
-use Rattle.aeth_base.specs.declared.memory.NoMemory.{NoMemory}
+use Rattle.std.proofs.Common.{◌≡◌, ◌≢◌, ◌≤◌, ◌<◌, IfOk, ℕ, List, length, Option, Some, Result, Ok}
+use Rattle.std.proofs.Common.{Err, zero, suc, ◌+◌, ◌∙◌, [], ◌∷◌, None, ap, refl, subst, arith}
+use Rattle.std.proofs.Common.{if◌then◌else◌, nat_le, le-leb}
+use Rattle.std.proofs.lemmas.Bool.{lt-leb}
+use Rattle.aeth_base.specs.{Faults.BrokenRule, Faults.Reads, declared.memory.NoMemory.NoMemory}
 use Rattle.aeth_io.specs.Limits.{max_file_bytes}
-use Rattle.aeth_answers.specs.declared.answer.Stop.{Stop}
-use Rattle.aeth_answers.specs.declared.answer.Stop.TheVariants.{Ends, Memory}
+use Rattle.aeth_answers.specs.declared.answer.Stop.{Stop, TheVariants.Ends, TheVariants.Memory}
 use Rattle.aeth_answers.specs.Files.{judgement, text_file}
 use Rattle.aeth_answers.specs.Refusal.{refused_file, too_long}
 use Rattle.aeth_answers.specs.Job.{Job, done, not_granted}

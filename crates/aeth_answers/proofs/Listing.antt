@@ -1,11 +1,8 @@
 -- Laws of lists that are put into a text one by one.
 use Rattle.std.proofs.Common.{◌≡◌, ◌∙◌, ◌<◌, ◌+◌, ℕ, ◌++◌, List, [], ◌∷◌, length, map, take, ap}
-use Rattle.std.proofs.Common.{sym, inl, inr, append-nil, arith}
-use Rattle.std.specs.Fmt.{decimal}
-use Rattle.std.specs.List.{flat_map, join_with_byte}
-use Rattle.std.specs.Prelude.{slice_get, IfSome}
-use Rattle.std.proofs.lemmas.List.{flat_map_more, map-id, take_more}
-use Rattle.std.proofs.lemmas.Option.{slice_get_cases}
+use Rattle.std.proofs.Common.{sym, inl, inr, append-nil, arith, slice_get, IfSome, map-id}
+use Rattle.std.proofs.lemmas.{List.flat_map_more, List.take_more, Option.slice_get_cases}
+use Rattle.std.specs.{Fmt.decimal, List.flat_map, List.join_with_byte}
 use Rattle.aeth_text.specs.Limits.{comma}
 use Rattle.aeth_answers.specs.Text.{list_text}
 

@@ -1,14 +1,10 @@
 -- Laws of a list of slots that is read piece by piece.
 use Rattle.std.proofs.Common.{◌≡◌, ◌∙◌, ℕ, ◌+◌, ◌-◌, ◌<◌, ◌≤◌, ◌++◌, List, [], ◌∷◌, length, drop}
 use Rattle.std.proofs.Common.{get_or, Bool, true, false, ◌&&◌, cond, eqb, leb, Option, Some, None}
-use Rattle.std.proofs.Common.{ap, sym, refl, append_assoc, append-nil}
-use Rattle.std.specs.Option.{option_and_then, option_map}
-use Rattle.std.specs.List.{slice_split}
-use Rattle.std.specs.Prelude.{codes}
-use Rattle.std.specs.Str.{bytes_eq}
-use Rattle.std.proofs.lemmas.Bool.{and_parts, leb-true}
-use Rattle.std.proofs.lemmas.List.{at_drop_more, at_drop_all}
-use Rattle.std.proofs.lemmas.Option.{none-some, option_and_then_some, same_Some}
+use Rattle.std.proofs.Common.{ap, sym, refl, append_assoc, append-nil, codes, leb-true}
+use Rattle.std.proofs.lemmas.{Bool.and_parts, List.at_drop_more, List.at_drop_all, Option.none-some}
+use Rattle.std.proofs.lemmas.{Option.option_and_then_some, Option.same_Some}
+use Rattle.std.specs.{Option.option_and_then, Option.option_map, List.slice_split, Str.bytes_eq}
 use Rattle.aeth_slots.specs.SlotSet.{Slots}
 use Rattle.aeth_base.specs.Number.{number_of}
 use Rattle.aeth_text.specs.Limits.{comma}

@@ -1,17 +1,14 @@
 -- Laws of tasks: what answers them while their files are read.
-use Rattle.std.proofs.Common.{◌≡◌, ◌≢◌, ◌∙◌, ◌≤◌, ◌<◌, ℕ, List, Option, Some, None, inl, inr}
-use Rattle.std.proofs.Common.{true, refl, sym, subst, arith}
-use Rattle.std.proofs.lemmas.Bool.{cases_Bool}
+use Rattle.std.proofs.Common.{◌≡◌, ◌≢◌, ◌∙◌, ◌≤◌, ◌<◌, ℕ, List, Option, Some, None, inl, inr, true}
+use Rattle.std.proofs.Common.{refl, sym, subst, arith}
+use Rattle.std.proofs.lemmas.{Bool.cases_Bool, Option.none-some, Option.same_Some}
 use Rattle.std.proofs.Math.Path.{fun_ext}
-use Rattle.std.proofs.lemmas.Option.{none-some, same_Some}
-use Rattle.aeth_io.specs.Causes.{IsFaultless, Rose}
-use Rattle.aeth_io.specs.declared.shelf.Shelf.{Ghosts}
-use Rattle.aeth_answers.specs.Job.{Job, read_fault}
-use Rattle.aeth_answers.specs.Places.{Files, IsAfter, NoneFailed, files_of}
-use Rattle.aeth_answers.specs.Status.{read_fault_status, usage_status}
-use Rattle.aeth_answers.specs.Stop.{Leaves}
-use Rattle.aeth_answers.specs.Task.{ComesTo, ComesToRead, IsAnswer, OnTold, Task, ends}
-use Rattle.aeth_answers.specs.Task.{job_with, reads, told}
+use Rattle.aeth_io.specs.{Causes.IsFaultless, Causes.Rose, declared.shelf.Shelf.Ghosts}
+use Rattle.aeth_answers.specs.{Job.Job, Job.read_fault, Places.Files, Places.IsAfter}
+use Rattle.aeth_answers.specs.{Places.NoneFailed, Places.files_of, Status.read_fault_status}
+use Rattle.aeth_answers.specs.{Status.usage_status, Stop.Leaves, Task.ComesTo, Task.ComesToRead}
+use Rattle.aeth_answers.specs.{Task.IsAnswer, Task.OnTold, Task.Task, Task.ends, Task.job_with}
+use Rattle.aeth_answers.specs.{Task.reads, Task.told}
 
 -- No call failed where none failed on a shelf that counts calls alone.
 pub NoneFailed-counted : {H : Type 0} (g : Ghosts H) (old new : H)

@@ -4,7 +4,7 @@
 --   judgement      what a file tells, or the end by the rule that it breaks
 --   judged_file      a file that is read and judged
 -- This project's own.
-use Rattle.std.specs.Prelude.{ℕ, nat_le, List, length, Result, Ok, Err, if◌then◌else◌}
+use Rattle.std.proofs.Common.{ℕ, nat_le, List, length, Result, Ok, Err, if◌then◌else◌}
 use Rattle.aeth_base.specs.Faults.{BrokenRule}
 use Rattle.aeth_io.specs.Limits.{max_file_bytes}
 use Rattle.aeth_answers.specs.Refusal.{refused_file, too_long}

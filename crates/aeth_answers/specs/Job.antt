@@ -1,6 +1,6 @@
 -- Jobs: a status and a text.
 -- This project's own.
-use Rattle.std.specs.Prelude.{ℕ, ◌==◌, ◌++◌, List, [], codes, if◌then◌else◌}
+use Rattle.std.proofs.Common.{ℕ, ◌==◌, ◌++◌, List, [], codes, if◌then◌else◌}
 use Rattle.aeth_answers.specs.Status.{done_status, not_granted_status, read_fault_status}
 use Rattle.aeth_answers.specs.Status.{usage_status}
 

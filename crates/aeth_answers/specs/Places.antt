@@ -5,9 +5,8 @@
 --   IsAfter      what holds of a shelf after some reads, whatever they came to
 --   Sinks, Places      the two sinks; the shelf and the two sinks
 -- This project's own.
-use Rattle.std.specs.Prelude.{ℕ, ◌≡◌, ◌≤◌, List, Option, if◌then◌else◌}
-use Rattle.aeth_io.specs.Causes.{IsFaultless}
-use Rattle.aeth_io.specs.declared.shelf.Shelf.{Ghosts}
+use Rattle.std.proofs.Common.{ℕ, ◌≡◌, ◌≤◌, List, Option, if◌then◌else◌}
+use Rattle.aeth_io.specs.{Causes.IsFaultless, declared.shelf.Shelf.Ghosts}
 
 -- What a run sees of a shelf: the contents that it tells, the counts of its faults, and how many
 -- calls failed, as far as it tells them.

@@ -1,11 +1,10 @@
 -- Refusal lines: the first rule that a file breaks, its place and the value that broke it.
 -- This project's own.
-use Rattle.std.specs.Prelude.{ℕ, ◌++◌, List, codes, decimal}
+use Rattle.std.proofs.Common.{ℕ, ◌++◌, List, codes, decimal}
 use Rattle.aeth_base.specs.Faults.{BrokenRule}
 use Rattle.aeth_base.specs.declared.shown.Shown.{Shown}
 use Rattle.aeth_base.specs.declared.shown.Shown.TheVariants.{Nothing, Odd, Number, Word}
-use Rattle.aeth_answers.specs.Job.{Job}
-use Rattle.aeth_answers.specs.Status.{refused_status}
+use Rattle.aeth_answers.specs.{Job.Job, Status.refused_status}
 
 -- The value as a refusal line shows it.
 abbrev pub value_text : Shown → List ℕ

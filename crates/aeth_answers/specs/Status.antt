@@ -1,6 +1,6 @@
 -- The statuses with which the program ends, as numbers.
 -- This project's own.
-use Rattle.std.specs.Prelude.{ℕ}
+use Rattle.std.proofs.Common.{ℕ}
 use Rattle.aeth_answers.specs.declared.status.Status.{Status}
 use Rattle.aeth_answers.specs.declared.status.Status.TheVariants as status
 

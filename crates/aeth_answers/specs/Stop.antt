@@ -8,15 +8,13 @@
 --   Refuses, HandsOn    a call hands on what a reader of a file gave, or refuses the file
 --   Ended               a call hands on an answer, if memory wasn't wanting for it
 -- This project's own.
-use Rattle.std.specs.Prelude.{ℕ, ◌≡◌, List, Option, Some, Result, Ok, Err, ⊤}
-use Rattle.aeth_base.specs.Faults.{BrokenRule}
-use Rattle.aeth_base.specs.declared.memory.NoMemory.{NoMemory}
-use Rattle.aeth_answers.specs.declared.answer.Stop.{Stop}
-use Rattle.aeth_answers.specs.declared.answer.Stop.TheVariants.{Ends, Memory}
-use Rattle.aeth_answers.specs.Job.{Job}
-use Rattle.aeth_answers.specs.Places.{Files, IsAfter, NoneFailed}
-use Rattle.aeth_answers.specs.Refusal.{refused_file}
-use Rattle.aeth_answers.specs.Task.{IsAnswer, Judging, Task}
+use Rattle.std.proofs.Common.{ℕ, ◌≡◌, List, Option, Some, Result, Ok, Err}
+use Rattle.std.specs.Prelude.{⊤}
+use Rattle.aeth_base.specs.{Faults.BrokenRule, declared.memory.NoMemory.NoMemory}
+use Rattle.aeth_answers.specs.{declared.answer.Stop.Stop, declared.answer.Stop.TheVariants.Ends}
+use Rattle.aeth_answers.specs.{declared.answer.Stop.TheVariants.Memory, Job.Job, Places.Files}
+use Rattle.aeth_answers.specs.{Places.IsAfter, Places.NoneFailed, Refusal.refused_file}
+use Rattle.aeth_answers.specs.{Task.IsAnswer, Task.Judging, Task.Task}
 
 -- Once some files of a task were read, so that the shelf went from the old files to these, the rest
 -- of it is left: what answers the rest answers the task.

@@ -7,11 +7,10 @@
 --   ComesToRead             all that is judged before a file was judged and not refused
 --   IsAnswer, IsReadFault   what a run answers: the job, or that a file can't be read
 -- This project's own.
-use Rattle.std.specs.Prelude.{ℕ, ◌≡◌, ◌≢◌, ◌<◌, ◌≤◌, ◌⊎◌, List, Option, Some, None}
+use Rattle.std.proofs.Common.{ℕ, ◌≡◌, ◌≢◌, ◌<◌, ◌≤◌, ◌⊎◌, List, Option, Some, None}
 use Rattle.aeth_io.specs.Causes.{Rose}
-use Rattle.aeth_answers.specs.Job.{Job, read_fault}
-use Rattle.aeth_answers.specs.Places.{Files, NoneFailed}
-use Rattle.aeth_answers.specs.Status.{read_fault_status, usage_status}
+use Rattle.aeth_answers.specs.{Job.Job, Job.read_fault, Places.Files, Places.NoneFailed}
+use Rattle.aeth_answers.specs.{Status.read_fault_status, Status.usage_status}
 
 -- A task ends with a job; or it reads a file, which has a word in texts and a name on the shelf,
 -- and goes on with its bytes.

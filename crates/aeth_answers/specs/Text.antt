@@ -1,6 +1,6 @@
 -- Texts that commands print.
 -- This project's own.
-use Rattle.std.specs.Prelude.{ℕ, List, map, decimal}
+use Rattle.std.proofs.Common.{ℕ, List, map, decimal}
 use Rattle.std.specs.List.{join_with_byte}
 use Rattle.aeth_text.specs.Limits.{comma}
 

@@ -4,13 +4,11 @@
 --   IsCutShort      a sink failed
 --   EndsWith      the status with which a run ends that has this answer
 -- This project's own.
-use Rattle.std.specs.Prelude.{ℕ, ◌≡◌, ◌≢◌, ◌≤◌, ◌⊎◌}
-use Rattle.aeth_io.specs.Causes.{Rose}
-use Rattle.aeth_io.specs.Sink.{AppendsProperPrefix, appended}
-use Rattle.aeth_io.specs.declared.sink.Sink.{Ghosts}
-use Rattle.aeth_answers.specs.Job.{Job, err_text, out_text}
-use Rattle.aeth_answers.specs.Places.{Sinks}
-use Rattle.aeth_answers.specs.Status.{done_status, write_fault_status}
+use Rattle.std.proofs.Common.{ℕ, ◌≡◌, ◌≢◌, ◌≤◌, ◌⊎◌}
+use Rattle.aeth_io.specs.{Causes.Rose, Sink.AppendsProperPrefix, Sink.appended}
+use Rattle.aeth_io.specs.{declared.sink.Sink.Ghosts}
+use Rattle.aeth_answers.specs.{Job.Job, Job.err_text, Job.out_text, Places.Sinks}
+use Rattle.aeth_answers.specs.{Status.done_status, Status.write_fault_status}
 
 -- Just the text of the answer was written: to `out` where it is done, and then `err` is as before; else
 -- to `err`, and then `out` is.

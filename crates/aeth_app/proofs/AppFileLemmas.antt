@@ -1,20 +1,17 @@
 -- Every application that a file tells is one, for the chip with which it is read.
-use Rattle.std.proofs.Common.{◌≡◌, ℕ, List, Option, Some, None, length, refl, subst}
-use Rattle.std.specs.Prelude.{codes, Err, Ok, Result}
+use Rattle.std.proofs.Common.{◌≡◌, ℕ, List, Option, Some, None, length, refl, subst, codes, Err, Ok}
+use Rattle.std.proofs.Common.{Result}
 use Rattle.toml.specs.Data.{Members}
 use Rattle.aeth_base.specs.Faults.{BrokenRule}
 use Rattle.aeth_chip.specs.Chip.{ChipData, IsChip}
-use Rattle.aeth_document.specs.Chain.{◌>>=◌}
-use Rattle.aeth_document.specs.Document.{document_of}
+use Rattle.aeth_document.specs.{Chain.◌>>=◌, Document.document_of}
 use Rattle.aeth_document.proofs.ChainLemmas.{judged-kept, judged-none}
-use Rattle.aeth_app.specs.declared.connection.Connection.{Connection}
-use Rattle.aeth_app.specs.declared.connection.Core.{Core}
+use Rattle.aeth_app.specs.declared.connection.{Connection.Connection, Core.Core}
 use Rattle.aeth_app.specs.App.{AppData, IsApp, IsAppOf}
 use Rattle.aeth_app.specs.AppFile.{app_in, app_of, app_of_document, told_app}
 use Rattle.aeth_app.specs.Demands.{IsWithinDemands, demands}
-use Rattle.aeth_app.proofs.RangeLemmas.{in_range}
-use Rattle.aeth_app.proofs.RepeatLemmas.{are_apart}
-use Rattle.aeth_app.proofs.ToldLemmas.{is_app, is_app_of}
+use Rattle.aeth_app.proofs.{RangeLemmas.in_range, RepeatLemmas.are_apart, ToldLemmas.is_app}
+use Rattle.aeth_app.proofs.{ToldLemmas.is_app_of}
 
 -- Rules on what an application asks for that are kept.
 demands-kept : (nis : ℕ) (cores : List Core) (connections : List Connection) (kept : Unit {0})

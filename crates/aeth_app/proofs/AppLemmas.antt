@@ -1,9 +1,8 @@
 -- Laws of applications.
-use Rattle.std.proofs.Common.{◌≡◌, ◌<◌, ℕ, true, length, inl, inr, arith}
-use Rattle.std.specs.Prelude.{slice_get, IsSomeAnd, IsTrue}
+use Rattle.std.proofs.Common.{◌≡◌, ◌<◌, ℕ, true, length, inl, inr, arith, slice_get, IsSomeAnd}
+use Rattle.std.proofs.Common.{IsTrue}
 use Rattle.std.proofs.lemmas.Option.{slice_get_cases}
-use Rattle.aeth_base.proofs.Lists.{count_by-before}
-use Rattle.aeth_base.specs.declared.ids.CoreId.{CoreId}
+use Rattle.aeth_base.{proofs.Lists.count_by-before, specs.declared.ids.CoreId.CoreId}
 use Rattle.aeth_app.specs.App.{AppData, IsApp, is_end, position_of}
 use Rattle.aeth_app.specs.Limits.{max_core_connections}
 

@@ -3,33 +3,24 @@
 --   above-none    a count that isn't above the most
 --   joined    each connection is one
 --   busy, seated    the connections of a core, and the cores of a network interface
-use Rattle.std.proofs.Common.{◌≡◌, ◌+◌, ◌<◌, ◌≤◌, ◌*◌, ◌==◌, ℕ, true, false, List, []}
-use Rattle.std.proofs.Common.{◌∷◌, length, map, Option, Some, None, refl, arith, inl, inr}
-use Rattle.std.proofs.Common.{Bool}
-use Rattle.std.specs.Prelude.{All, codes, count_by, flat_map}
-use Rattle.std.proofs.lemmas.Bool.{cases_lt, ne_eqb}
-use Rattle.std.proofs.lemmas.Bool.Decides.{Decides-eqb, nat_tests}
-use Rattle.std.proofs.lemmas.List.Elements.{All-cons, All-head, All-nil, All-tail}
-use Rattle.std.proofs.lemmas.List.Elements.{All-weaker}
+use Rattle.std.proofs.Common.{◌≡◌, ◌+◌, ◌<◌, ◌≤◌, ◌*◌, ◌==◌, ℕ, true, false, List, [], ◌∷◌, length}
+use Rattle.std.proofs.Common.{map, Option, Some, None, refl, arith, inl, inr, Bool, All, codes}
+use Rattle.std.proofs.Common.{count_by, flat_map, ne_eqb}
+use Rattle.std.proofs.lemmas.Bool.{cases_lt, Decides.Decides-eqb, Decides.nat_tests}
+use Rattle.std.proofs.lemmas.List.Elements.{All-cons, All-head, All-nil, All-tail, All-weaker}
 use Rattle.toml.specs.Data.{Members}
-use Rattle.aeth_base.specs.declared.ids.CoreId.{CoreId}
-use Rattle.aeth_base.specs.declared.ids.NiId.{NiId}
-use Rattle.aeth_document.specs.Values.{text_at}
-use Rattle.aeth_document.specs.Walks.{first_broken, next_place}
-use Rattle.aeth_document.proofs.WalkLemmas.{first_broken-head}
-use Rattle.aeth_document.proofs.WalkLemmas.{first_broken-range, first_broken-tail}
-use Rattle.aeth_app.specs.declared.connection.Connection.{Connection}
-use Rattle.aeth_app.specs.declared.connection.Core.{Core}
-use Rattle.aeth_app.specs.declared.connection.Wish.{Wish}
-use Rattle.aeth_app.specs.App.{IsConnection, IsWish, is_end}
-use Rattle.aeth_app.specs.App.{is_fixed_to, is_ni}
+use Rattle.aeth_base.specs.declared.ids.{CoreId.CoreId, NiId.NiId}
 use Rattle.aeth_base.specs.Limits.{words_per_flit}
-use Rattle.aeth_app.specs.Demands.{above, core_too_busy, own_end, seats_overfull, too_fast}
-use Rattle.aeth_app.specs.Limits.{max_core_connections, seats_per_ni}
-use Rattle.aeth_app.specs.Parts.{connection_of, wish_in}
-use Rattle.aeth_app.specs.Ranges.{IsConnectionInRange, IsWishInRange}
-use Rattle.aeth_app.specs.Tables.{wish_at}
-use Rattle.aeth_app.specs.Unknown.{ends_in, unknown}
+use Rattle.aeth_document.specs.{Values.text_at, Walks.first_broken, Walks.next_place}
+use Rattle.aeth_document.proofs.WalkLemmas.{first_broken-head, first_broken-range}
+use Rattle.aeth_document.proofs.WalkLemmas.{first_broken-tail}
+use Rattle.aeth_app.specs.{declared.connection.Connection.Connection, declared.connection.Core.Core}
+use Rattle.aeth_app.specs.{declared.connection.Wish.Wish, App.IsConnection, App.IsWish, App.is_end}
+use Rattle.aeth_app.specs.{App.is_fixed_to, App.is_ni, Demands.above, Demands.core_too_busy}
+use Rattle.aeth_app.specs.{Demands.own_end, Demands.seats_overfull, Demands.too_fast}
+use Rattle.aeth_app.specs.{Limits.max_core_connections, Limits.seats_per_ni, Parts.connection_of}
+use Rattle.aeth_app.specs.{Parts.wish_in, Ranges.IsConnectionInRange, Ranges.IsWishInRange}
+use Rattle.aeth_app.specs.{Tables.wish_at, Unknown.ends_in, Unknown.unknown}
 use Rattle.aeth_app.proofs.PartLemmas.{IsFixedBelow, end_of-within}
 
 -- A count that isn't above the most is at most that.

@@ -1,16 +1,15 @@
 -- Laws of how many connections each core has, and of their positions.
-use Rattle.std.proofs.Common.{◌≡◌, ◌∙◌, ◌+◌, ◌<◌, ◌≤◌, ℕ, true, cond, List, [], length, take}
-use Rattle.std.proofs.Common.{Some, slice_get, get_or, replicate, eqb, ap, subst, sym, inl, inr, arith}
-use Rattle.std.specs.Prelude.{IsSomeAnd, IsTrue}
-use Rattle.std.proofs.lemmas.Bool.{cases_Bool, eqb-true, or_cases}
-use Rattle.std.proofs.lemmas.List.{get_or-replicate, length-replicate, take_all}
+use Rattle.std.proofs.Common.{◌≡◌, ◌∙◌, ◌+◌, ◌<◌, ◌≤◌, ℕ, true, cond, List, [], length, take, Some}
+use Rattle.std.proofs.Common.{slice_get, get_or, replicate, eqb, ap, subst, sym, inl, inr, arith}
+use Rattle.std.proofs.Common.{IsSomeAnd, IsTrue, eqb-true, take_all}
+use Rattle.std.proofs.lemmas.Bool.{cases_Bool, or_cases}
+use Rattle.std.proofs.lemmas.List.{get_or-replicate, length-replicate}
 use Rattle.std.proofs.lemmas.List.Sums.{count_by_more_no, count_by_more_yes}
 use Rattle.std.proofs.lemmas.Option.{get_or_from_slice_get, same_Some, slice_get_within}
 use Rattle.aeth_base.specs.declared.ids.CoreId.{CoreId}
 use Rattle.aeth_app.specs.App.{is_end, position_of}
 use Rattle.aeth_app.specs.Ends.{AreEndCounts, ArePositions, IsPlaced}
-use Rattle.aeth_app.specs.declared.connection.Connection.{Connection}
-use Rattle.aeth_app.specs.declared.ends.Positions.{Positions}
+use Rattle.aeth_app.specs.declared.{connection.Connection.Connection, ends.Positions.Positions}
 
 -- Without a connection none has one.
 pub counts-none : (cores : ℕ) → AreEndCounts cores [] (replicate cores 0)

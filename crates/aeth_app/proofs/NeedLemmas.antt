@@ -1,16 +1,14 @@
 -- What channels need lies between one slot and the table.
 use Rattle.std.proofs.Common.{◌*◌, ◌≤◌, ◌↔◌, ℕ, arith}
-use Rattle.std.specs.Int.{div_ceil}
 use Rattle.std.proofs.Math.Nat.{le-max_left, le-max_right, max-le, mul-le-mul_right}
 use Rattle.std.proofs.Math.Nat.{le_of_mul-le-mul_right}
+use Rattle.std.specs.Int.{div_ceil}
 use Rattle.aeth_base.proofs.Division.{div_ceil-le, le-div_ceil}
 use Rattle.aeth_base.specs.Limits.{credits_per_flit, words_per_flit}
-use Rattle.aeth_base.specs.declared.ids.Side.{Side}
-use Rattle.aeth_base.specs.declared.ids.Side.TheVariants.{Fwd, Back}
+use Rattle.aeth_base.specs.declared.ids.Side.{Side, TheVariants.Fwd, TheVariants.Back}
 use Rattle.aeth_app.specs.App.{IsWish}
 use Rattle.aeth_app.specs.Rates.{back_need, credit_need, need_of, own_need}
-use Rattle.aeth_app.specs.declared.connection.Connection.{Connection}
-use Rattle.aeth_app.specs.declared.connection.Wish.{Wish}
+use Rattle.aeth_app.specs.declared.connection.{Connection.Connection, Wish.Wish}
 
 -- A wish's own words need no more slots than the table has, where it has at most two a cycle.
 own_need-le : (slots : ℕ) (wish : Wish) → 1 ≤ slots → 1 ≤ wish.per

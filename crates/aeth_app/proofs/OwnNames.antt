@@ -1,9 +1,7 @@
 -- Names of an application's parts tell the parts.
 use Rattle.std.proofs.Common.{◌≡◌, ℕ, List, Some, map, slice_get}
-use Rattle.std.specs.List.{IsDistinct, position}
-use Rattle.std.specs.Str.{bytes_eq}
-use Rattle.aeth_base.proofs.DistinctNames.{position-own}
-use Rattle.aeth_base.proofs.Lists.{map-at}
+use Rattle.std.specs.{List.IsDistinct, List.position, Str.bytes_eq}
+use Rattle.aeth_base.proofs.{DistinctNames.position-own, Lists.map-at}
 
 -- A part that is looked up by its name is found.
 pub own_place : {X : Type 0} (name : X → List ℕ) (xs : List X) (i : ℕ) (x : X)

@@ -3,27 +3,20 @@
 --   length-named_marks, named_marks-none, named_marks-known, named_marks-unknown    marks
 --   end_of-within, ni_of-within    places of names
 --   IsFixedBelow, cores_fixed, uses_marked    what holds of cores and use cases
-use Rattle.std.proofs.Common.{◌≡◌, ◌+◌, ◌++◌, ◌<◌, ℕ, zero, suc, true, false, List, [], ◌∷◌}
-use Rattle.std.proofs.Common.{length, map, Option, Some, None, refl, ap, arith, Bool}
-use Rattle.std.proofs.Common.{◌||◌, ◌==◌, inl, inr, subst}
-use Rattle.std.specs.Prelude.{All, option_map, replicate, codes}
-use Rattle.std.specs.List.{filter_map, list_any, range_with_len, slice_set}
-use Rattle.std.proofs.lemmas.Bool.{cases_Bool, ne_eqb}
-use Rattle.std.proofs.lemmas.Bool.Decides.{Decides-eqb}
-use Rattle.std.proofs.lemmas.List.{append-nil}
+use Rattle.std.proofs.Common.{◌≡◌, ◌+◌, ◌++◌, ◌<◌, ℕ, zero, suc, true, false, List, [], ◌∷◌, length}
+use Rattle.std.proofs.Common.{map, Option, Some, None, refl, ap, arith, Bool, ◌||◌, ◌==◌, inl, inr}
+use Rattle.std.proofs.Common.{subst, All, option_map, replicate, codes, ne_eqb, append-nil}
+use Rattle.std.proofs.lemmas.Bool.{cases_Bool, Decides.Decides-eqb}
 use Rattle.std.proofs.lemmas.List.FromFn.{length-map-range_with_len}
-use Rattle.std.proofs.lemmas.List.Elements.{filter_map-append, All-cons}
-use Rattle.std.proofs.lemmas.List.Elements.{All-nil}
-use Rattle.toml.specs.Data.{Members}
-use Rattle.aeth_document.specs.Values.{text_if, texts_at}
-use Rattle.aeth_document.specs.Walks.{place_of}
-use Rattle.aeth_app.specs.Parts.{named_marks, core_of, end_of, ni_of, use_of}
+use Rattle.std.proofs.lemmas.List.Elements.{filter_map-append, All-cons, All-nil}
 use Rattle.std.proofs.lemmas.Option.{same_Some}
-use Rattle.aeth_base.specs.declared.ids.NiId.{NiId}
+use Rattle.std.specs.List.{filter_map, list_any, range_with_len, slice_set}
+use Rattle.toml.specs.Data.{Members}
+use Rattle.aeth_document.specs.{Values.text_if, Values.texts_at, Walks.place_of}
 use Rattle.aeth_document.proofs.WalkLemmas.{place_of-within}
-use Rattle.aeth_app.specs.declared.connection.Core.{Core}
-use Rattle.aeth_app.specs.App.{IsUse}
-use Rattle.aeth_app.specs.Unknown.{unknown}
+use Rattle.aeth_app.specs.{Parts.named_marks, Parts.core_of, Parts.end_of, Parts.ni_of}
+use Rattle.aeth_app.specs.{Parts.use_of, declared.connection.Core.Core, App.IsUse, Unknown.unknown}
+use Rattle.aeth_base.specs.declared.ids.NiId.{NiId}
 
 -- Whether a place is one of some places.
 abbrev marked : List ℕ → ℕ → Bool

@@ -1,14 +1,10 @@
 -- Positions of a core's connections ascend.
-use Rattle.std.proofs.Common.{◌≡◌, ◌∙◌, ◌<◌, ℕ, true, List}
-use Rattle.std.proofs.Common.{take, slice_get, inl, inr, arith}
-use Rattle.std.specs.Prelude.{IsSomeAnd, IsTrue}
-use Rattle.std.proofs.lemmas.Bool.{cases_order}
-use Rattle.std.proofs.lemmas.List.{take-take}
-use Rattle.std.proofs.lemmas.Option.{slice_get_cases}
+use Rattle.std.proofs.Common.{◌≡◌, ◌∙◌, ◌<◌, ℕ, true, List, take, slice_get, inl, inr, arith}
+use Rattle.std.proofs.Common.{IsSomeAnd, IsTrue, take-take}
+use Rattle.std.proofs.lemmas.{Bool.cases_order, Option.slice_get_cases}
 use Rattle.aeth_base.proofs.Lists.{count_by-before, slice_get-take}
 use Rattle.aeth_base.specs.declared.ids.CoreId.{CoreId}
-use Rattle.aeth_app.specs.App.{is_end, position_of}
-use Rattle.aeth_app.specs.declared.connection.Connection.{Connection}
+use Rattle.aeth_app.specs.{App.is_end, App.position_of, declared.connection.Connection.Connection}
 
 -- A later connection has a greater position.
 pub position_of-ascends : (connections : List Connection) (core : CoreId) (i j : ℕ)

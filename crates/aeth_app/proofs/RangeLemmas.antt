@@ -1,15 +1,13 @@
 -- What holds where no number and no name of an application file is out of its range.
-use Rattle.std.proofs.Common.{◌≡◌, ◌++◌, ℕ, List, [], ◌∷◌, None, All, length, map}
-use Rattle.std.specs.Prelude.{codes, flat_map}
+use Rattle.std.proofs.Common.{◌≡◌, ◌++◌, ℕ, List, [], ◌∷◌, None, All, length, map, codes, flat_map}
 use Rattle.std.proofs.lemmas.List.Elements.{All-cons, All-nil}
 use Rattle.toml.specs.Data.{Members}
 use Rattle.aeth_base.specs.Limits.{max_receiver_delay}
 use Rattle.aeth_document.specs.Values.{integer_at, text_at}
 use Rattle.aeth_document.specs.Walks.{first_broken, next_place, no_name}
 use Rattle.aeth_document.proofs.WalkLemmas.{first_broken-after, first_broken-before}
-use Rattle.aeth_document.proofs.WalkLemmas.{first_broken-head, first_broken-none}
-use Rattle.aeth_document.proofs.WalkLemmas.{first_broken-tail, no_name-none, outside-size}
-use Rattle.aeth_document.proofs.WalkLemmas.{outside-within}
+use Rattle.aeth_document.proofs.WalkLemmas.{first_broken-head, first_broken-none, first_broken-tail}
+use Rattle.aeth_document.proofs.WalkLemmas.{no_name-none, outside-size, outside-within}
 use Rattle.aeth_app.specs.Limits.{max_connections, max_cores, max_detour, max_latency, max_per}
 use Rattle.aeth_app.specs.Limits.{max_uses, max_words, min_uses}
 use Rattle.aeth_app.specs.Ranges.{IsConnectionInRange, IsInRange, IsNamed, IsWishInRange}

@@ -1,6 +1,5 @@
 -- What holds where no name of an application file stands twice.
-use Rattle.std.proofs.Common.{◌≡◌, ◌++◌, [], None}
-use Rattle.std.specs.Prelude.{flat_map}
+use Rattle.std.proofs.Common.{◌≡◌, ◌++◌, [], None, flat_map}
 use Rattle.toml.specs.Data.{Members}
 use Rattle.aeth_document.specs.Walks.{repeats}
 use Rattle.aeth_document.proofs.WalkLemmas.{distinct-from_walk, first_broken-after}

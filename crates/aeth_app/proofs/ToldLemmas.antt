@@ -1,26 +1,22 @@
 -- What holds of the application that tables tell where no rule is broken.
 use Rattle.std.proofs.Common.{◌≡◌, ◌++◌, ◌∙◌, ◌*◌, ℕ, List, [], ◌∷◌, length, map, None, refl, sym}
-use Rattle.std.proofs.Common.{subst, true}
-use Rattle.std.specs.Prelude.{◌≤◌, All, codes, flat_map}
-use Rattle.std.specs.List.{filter_map}
+use Rattle.std.proofs.Common.{subst, true, ◌≤◌, All, codes, flat_map}
 use Rattle.std.proofs.lemmas.List.{length-map}
 use Rattle.std.proofs.lemmas.List.Elements.{All-cons, All-contains, All-head, All-nil, All-tail}
+use Rattle.std.specs.List.{filter_map}
 use Rattle.toml.specs.Data.{Members}
 use Rattle.aeth_base.specs.Name.{is_name}
 use Rattle.aeth_chip.specs.Chip.{ChipData, IsChip}
-use Rattle.aeth_document.specs.Values.{text_at, text_if, texts_at}
-use Rattle.aeth_document.specs.Walks.{first_broken}
+use Rattle.aeth_document.specs.{Values.text_at, Values.text_if, Values.texts_at, Walks.first_broken}
 use Rattle.aeth_document.proofs.WalkLemmas.{first_broken-after, first_broken-before}
 use Rattle.aeth_document.proofs.WalkLemmas.{first_broken-head}
-use Rattle.aeth_app.specs.App.{AreNames, IsApp, IsAppOf, IsConnection, IsUse}
-use Rattle.aeth_app.specs.AppFile.{told_app}
-use Rattle.aeth_app.specs.Demands.{IsWithinDemands, above}
-use Rattle.aeth_app.specs.Limits.{max_connections, max_cores, seats_per_ni}
-use Rattle.aeth_app.specs.Parts.{connection_of, core_of, use_of}
-use Rattle.aeth_app.specs.Ranges.{IsInRange, IsNamed}
-use Rattle.aeth_app.specs.Repeats.{HasDistinctNames}
-use Rattle.aeth_app.specs.Tables.{connections_in, cores_in, names_in, uses_in}
-use Rattle.aeth_app.specs.Unknown.{ends_in, unknown, unknown_checks, unknown_name}
+use Rattle.aeth_app.specs.{App.AreNames, App.IsApp, App.IsAppOf, App.IsConnection, App.IsUse}
+use Rattle.aeth_app.specs.{AppFile.told_app, Demands.IsWithinDemands, Demands.above}
+use Rattle.aeth_app.specs.{Limits.max_connections, Limits.max_cores, Limits.seats_per_ni}
+use Rattle.aeth_app.specs.{Parts.connection_of, Parts.core_of, Parts.use_of, Ranges.IsInRange}
+use Rattle.aeth_app.specs.{Ranges.IsNamed, Repeats.HasDistinctNames, Tables.connections_in}
+use Rattle.aeth_app.specs.{Tables.cores_in, Tables.names_in, Tables.uses_in, Unknown.ends_in}
+use Rattle.aeth_app.specs.{Unknown.unknown, Unknown.unknown_checks, Unknown.unknown_name}
 use Rattle.aeth_app.proofs.DemandLemmas.{above-none, busy, joined, seated}
 use Rattle.aeth_app.proofs.PartLemmas.{IsFixedBelow, cores_fixed, uses_marked}
 

@@ -1,12 +1,11 @@
 -- Walks over several lists, one after the other.
 use Rattle.std.proofs.Common.{◌≡◌, ◌≤◌, ◌-◌, ◌++◌, ◌∙◌, ℕ, List, [], Option, ap, arith, drop}
 use Rattle.std.proofs.Common.{length, map}
-use Rattle.std.specs.List.{range_with_len}
 use Rattle.std.proofs.lemmas.List.{at_drop_all}
+use Rattle.std.specs.List.{range_with_len}
 use Rattle.aeth_base.specs.declared.shown.Shown.{Shown}
 use Rattle.aeth_document.specs.Walks.{first_broken, found_by, walked}
-use Rattle.aeth_document.specs.declared.walk.Walk.{Walk}
-use Rattle.aeth_document.specs.declared.walk.Walk.TheVariants.{At}
+use Rattle.aeth_document.specs.declared.walk.Walk.{Walk, TheVariants.At}
 use Rattle.aeth_document.proofs.WalkLemmas.{found_by-walked, walked-append}
 
 -- A walk over four lists is the walk over the four in one.

@@ -9,25 +9,19 @@
 --   AreNames      the names of its parts
 --   is_ni, is_fixed_to, IsAppOf      what holds of an application that was read with a chip
 -- Connections and use cases: after Æthereal (2005) and UMARS (2005). The rest: this project's own.
-use Rattle.std.specs.Prelude.{◌≡◌, ◌≢◌, ◌≤◌, ◌<◌, ℕ, ◌*◌, ◌==◌, ◌||◌, Bool, true, false, List, length}
-use Rattle.std.specs.Prelude.{map, take, slice_get, count_by, Option, Some, None, All, Contains}
-use Rattle.std.specs.Prelude.{unwrap_or}
-use Rattle.std.specs.List.{IsDistinct}
-use Rattle.std.specs.Str.{bytes_eq}
-use Rattle.aeth_base.specs.declared.ids.CoreId.{CoreId}
-use Rattle.aeth_base.specs.declared.ids.NiId.{NiId}
-use Rattle.aeth_base.specs.declared.ids.Side.{Side}
-use Rattle.aeth_base.specs.declared.ids.Side.TheVariants.{Fwd, Back}
+use Rattle.std.proofs.Common.{◌≡◌, ◌≢◌, ◌≤◌, ◌<◌, ℕ, ◌*◌, ◌==◌, ◌||◌, Bool, true, false, List}
+use Rattle.std.proofs.Common.{length, map, take, slice_get, count_by, Option, Some, None, All}
+use Rattle.std.proofs.Common.{Contains, unwrap_or}
+use Rattle.std.specs.{List.IsDistinct, Str.bytes_eq}
+use Rattle.aeth_base.specs.declared.ids.{CoreId.CoreId, NiId.NiId, Side.Side, Side.TheVariants.Fwd}
+use Rattle.aeth_base.specs.declared.ids.{Side.TheVariants.Back}
 use Rattle.aeth_base.specs.Limits.{max_receiver_delay, max_slots, words_per_flit}
 use Rattle.aeth_base.specs.Name.{is_name}
 use Rattle.aeth_chip.specs.Chip.{ChipData}
 use Rattle.aeth_app.specs.Limits.{max_connections, max_core_connections, max_cores, max_detour}
-use Rattle.aeth_app.specs.Limits.{max_latency, max_per, max_uses, max_words, min_uses}
-use Rattle.aeth_app.specs.Limits.{seats_per_ni}
-use Rattle.aeth_app.specs.declared.connection.Connection.{Connection}
-use Rattle.aeth_app.specs.declared.connection.Core.{Core}
-use Rattle.aeth_app.specs.declared.connection.Price.{Price}
-use Rattle.aeth_app.specs.declared.connection.Wish.{Wish}
+use Rattle.aeth_app.specs.Limits.{max_latency, max_per, max_uses, max_words, min_uses, seats_per_ni}
+use Rattle.aeth_app.specs.declared.connection.{Connection.Connection, Core.Core, Price.Price}
+use Rattle.aeth_app.specs.declared.connection.{Wish.Wish}
 
 -- A use case: its name, for each connection whether it has it, and for each use case whether it
 -- names that one as smooth.

@@ -1,22 +1,15 @@
 -- The application of a file's bytes, or the first rule that the file breaks.
 -- This project's own.
-use Rattle.std.specs.Prelude.{ℕ, List, length, map, codes, Option, Some, None, Result, Ok, Err}
+use Rattle.std.proofs.Common.{ℕ, List, length, map, codes, Option, Some, None, Result, Ok, Err}
 use Rattle.toml.specs.Data.{Members}
-use Rattle.aeth_base.specs.Faults.{BrokenRule}
+use Rattle.aeth_base.specs.{Faults.BrokenRule, declared.shown.Shown.TheVariants.Nothing}
 use Rattle.aeth_chip.specs.Chip.{ChipData}
-use Rattle.aeth_document.specs.Chain.{◌>>=◌}
-use Rattle.aeth_document.specs.Document.{document_of}
-use Rattle.aeth_document.specs.Values.{integer_at, text_if}
-use Rattle.aeth_document.specs.Walks.{judged, size_of}
-use Rattle.aeth_base.specs.declared.shown.Shown.TheVariants.{Nothing}
-use Rattle.aeth_app.specs.App.{AppData}
-use Rattle.aeth_app.specs.Demands.{demands}
-use Rattle.aeth_app.specs.Keys.{wrong_keys}
-use Rattle.aeth_app.specs.Parts.{connection_of, core_of, told_price, use_of}
-use Rattle.aeth_app.specs.Ranges.{out_of_range}
-use Rattle.aeth_app.specs.Repeats.{name_twice}
-use Rattle.aeth_app.specs.Tables.{connections_in, cores_in, names_in, uses_in}
-use Rattle.aeth_app.specs.Unknown.{unknown_name}
+use Rattle.aeth_document.specs.{Chain.◌>>=◌, Document.document_of, Values.integer_at}
+use Rattle.aeth_document.specs.{Values.text_if, Walks.judged, Walks.size_of}
+use Rattle.aeth_app.specs.{App.AppData, Demands.demands, Keys.wrong_keys, Parts.connection_of}
+use Rattle.aeth_app.specs.{Parts.core_of, Parts.told_price, Parts.use_of, Ranges.out_of_range}
+use Rattle.aeth_app.specs.{Repeats.name_twice, Tables.connections_in, Tables.cores_in}
+use Rattle.aeth_app.specs.{Tables.names_in, Tables.uses_in, Unknown.unknown_name}
 
 -- The application of these tables, on a chip, where each name is known.
 unfoldable pub told_app : ChipData → Members → AppData

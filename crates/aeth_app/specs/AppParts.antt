@@ -1,7 +1,5 @@
 -- An application of its settings and parts, as the code holds them.
-use Rattle.aeth_app.specs.App.{AppData}
-use Rattle.aeth_app.specs.declared.app.Parts.{Parts}
-use Rattle.aeth_app.specs.declared.app.Settings.{Settings}
+use Rattle.aeth_app.specs.{App.AppData, declared.app.Parts.Parts, declared.app.Settings.Settings}
 
 -- The application with these settings and parts.
 abbrev pub app_with : Settings → Parts → AppData

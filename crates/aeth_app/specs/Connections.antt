@@ -3,12 +3,10 @@
 --   sender, receiver      the cores that send and receive on a side
 --   connection_names      the names of an application's connections
 -- A connection with a channel each way: after Æthereal (2005).
-use Rattle.std.specs.Prelude.{ℕ, List, map}
+use Rattle.std.proofs.Common.{ℕ, List, map}
 use Rattle.aeth_base.specs.declared.ids.CoreId.{CoreId}
-use Rattle.aeth_base.specs.declared.ids.Side.{Side}
-use Rattle.aeth_base.specs.declared.ids.Side.TheVariants.{Back, Fwd}
-use Rattle.aeth_app.specs.App.{AppData}
-use Rattle.aeth_app.specs.declared.connection.Connection.{Connection}
+use Rattle.aeth_base.specs.declared.ids.Side.{Side, TheVariants.Back, TheVariants.Fwd}
+use Rattle.aeth_app.specs.{App.AppData, declared.connection.Connection.Connection}
 
 -- The core that sends on a side of a connection.
 abbrev pub sender : Connection → Side → CoreId

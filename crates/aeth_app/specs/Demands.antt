@@ -4,20 +4,15 @@
 --   IsWithinDemands    what holds where none finds anything
 --   demands    the rules, one after the other
 -- This project's own.
-use Rattle.std.specs.Prelude.{ℕ, ◌≡◌, ◌*◌, ◌==◌, nat_le, List, [], ◌∷◌, map, flat_map, length}
-use Rattle.std.specs.Prelude.{codes, count_by, slice_get, Option, Some, None, Result}
-use Rattle.std.specs.Prelude.{if◌then◌else◌}
+use Rattle.std.proofs.Common.{ℕ, ◌≡◌, ◌*◌, ◌==◌, nat_le, List, [], ◌∷◌, map, flat_map, length}
+use Rattle.std.proofs.Common.{codes, count_by, slice_get, Option, Some, None, Result, if◌then◌else◌}
 use Rattle.std.specs.List.{range_with_len}
 use Rattle.aeth_base.specs.Faults.{BrokenRule}
 use Rattle.aeth_base.specs.Limits.{words_per_flit}
-use Rattle.aeth_base.specs.declared.shown.Broken.{Broken}
-use Rattle.aeth_base.specs.declared.shown.Shown.{Shown}
-use Rattle.aeth_base.specs.declared.shown.Shown.TheVariants.{Nothing, Number, Word}
-use Rattle.aeth_document.specs.Chain.{◌>>=◌}
-use Rattle.aeth_document.specs.Walks.{first_broken, judged}
-use Rattle.aeth_app.specs.declared.connection.Connection.{Connection}
-use Rattle.aeth_app.specs.declared.connection.Core.{Core}
-use Rattle.aeth_app.specs.declared.connection.Wish.{Wish}
+use Rattle.aeth_base.specs.declared.shown.{Broken.Broken, Shown.Shown, Shown.TheVariants.Nothing}
+use Rattle.aeth_base.specs.declared.shown.{Shown.TheVariants.Number, Shown.TheVariants.Word}
+use Rattle.aeth_document.specs.{Chain.◌>>=◌, Walks.first_broken, Walks.judged}
+use Rattle.aeth_app.specs.declared.connection.{Connection.Connection, Core.Core, Wish.Wish}
 use Rattle.aeth_app.specs.App.{is_end, is_fixed_to}
 use Rattle.aeth_app.specs.Limits.{max_core_connections, seats_per_ni}
 

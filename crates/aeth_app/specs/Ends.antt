@@ -3,12 +3,11 @@
 --   AreEndCounts    how many connections each core has
 --   IsPlaced, ArePositions    the positions of connections at their ends
 -- This project's own.
-use Rattle.std.specs.Prelude.{◌≡◌, ◌<◌, ℕ, List, Some, length, count_by, slice_get, slice_index_or}
+use Rattle.std.proofs.Common.{◌≡◌, ◌<◌, ℕ, List, Some, length, count_by, slice_get, slice_index_or}
 use Rattle.aeth_base.specs.declared.ids.CoreId.{CoreId}
 use Rattle.aeth_chip.specs.Index.{HasEntries}
 use Rattle.aeth_app.specs.App.{is_end, position_of}
-use Rattle.aeth_app.specs.declared.connection.Connection.{Connection}
-use Rattle.aeth_app.specs.declared.ends.Positions.{Positions}
+use Rattle.aeth_app.specs.declared.{connection.Connection.Connection, ends.Positions.Positions}
 
 -- For each of so many cores how many of the connections have it as an end.
 pub record AreEndCounts (cores : ℕ) (connections : List Connection) (counts : List ℕ)

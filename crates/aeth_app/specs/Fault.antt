@@ -1,6 +1,6 @@
 -- The rule that the fault of an application file shows.
 -- This project's own.
-use Rattle.std.specs.Prelude.{codes, Option, Some, None}
+use Rattle.std.proofs.Common.{codes, Option, Some, None}
 use Rattle.aeth_base.specs.Faults.{BrokenRule, broken_as}
 use Rattle.aeth_app.specs.declared.fault.AppFault.{AppFault}
 use Rattle.aeth_app.specs.declared.fault.AppFault.TheVariants.{BadToml, CoreToItself, CoreTooBusy}

@@ -3,14 +3,12 @@
 --   root_fields, core_fields, connection_fields, wish_fields, use_fields    what each table has
 --   key_checks, wrong_keys    the walk over all tables
 -- This project's own.
-use Rattle.std.specs.Prelude.{List, [], ◌∷◌, ◌++◌, map, flat_map, codes, Option}
+use Rattle.std.proofs.Common.{List, [], ◌∷◌, ◌++◌, map, flat_map, codes, Option}
 use Rattle.toml.specs.Data.{Members}
-use Rattle.aeth_document.specs.declared.keys.Kind.TheVariants as kind
-use Rattle.aeth_base.specs.declared.shown.Broken.{Broken}
-use Rattle.aeth_base.specs.declared.shown.Shown.{Shown}
-use Rattle.aeth_document.specs.Keys.{Fields, wrong_key}
-use Rattle.aeth_document.specs.Walks.{first_broken}
+use Rattle.aeth_base.specs.declared.shown.{Broken.Broken, Shown.Shown}
+use Rattle.aeth_document.specs.{Keys.Fields, Keys.wrong_key, Walks.first_broken}
 use Rattle.aeth_app.specs.Tables.{connections_in, cores_in, uses_in, wish_at}
+use Rattle.aeth_document.specs.declared.keys.Kind.TheVariants as kind
 
 -- The root table's keys.
 abbrev pub root_fields : Fields

@@ -1,6 +1,6 @@
 -- The numbers of the rules on applications.
 -- This project's own.
-use Rattle.std.specs.Prelude.{ℕ}
+use Rattle.std.proofs.Common.{ℕ}
 
 -- The version of an application file.
 abbrev pub app_version : ℕ

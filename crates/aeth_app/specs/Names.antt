@@ -1,6 +1,6 @@
 -- The names that are kept beside the tables of an application file.
 -- This project's own.
-use Rattle.std.specs.Prelude.{◌≡◌, ◌≤◌, length}
+use Rattle.std.proofs.Common.{◌≡◌, ◌≤◌, length}
 use Rattle.toml.specs.Data.{Members}
 use Rattle.aeth_app.specs.Limits.{max_connections, max_cores, max_uses}
 use Rattle.aeth_app.specs.Tables.{connections_in, cores_in, names_in, uses_in}

@@ -4,20 +4,16 @@
 --   marks_of, use_of    marks at some places, and a use case from its table
 --   told_price    what links cost
 -- This project's own.
-use Rattle.std.specs.Prelude.{ℕ, ◌==◌, Bool, List, map, length, codes, Option, Some, None}
-use Rattle.std.specs.Prelude.{option_map, option_and_then, unwrap_or, if◌then◌else◌}
-use Rattle.std.specs.List.{filter_map, list_any, range_with_len}
-use Rattle.std.specs.Str.{bytes_eq}
+use Rattle.std.proofs.Common.{ℕ, ◌==◌, Bool, List, map, length, codes, Option, Some, None}
+use Rattle.std.proofs.Common.{option_map, option_and_then, unwrap_or, if◌then◌else◌}
+use Rattle.std.specs.{List.filter_map, List.list_any, List.range_with_len, Str.bytes_eq}
 use Rattle.toml.specs.Data.{Members}
-use Rattle.aeth_base.specs.declared.ids.CoreId.{CoreId}
-use Rattle.aeth_base.specs.declared.ids.NiId.{NiId}
+use Rattle.aeth_base.specs.declared.ids.{CoreId.CoreId, NiId.NiId}
 use Rattle.aeth_document.specs.Values.{integer_at, text_at, text_if, texts_at}
 use Rattle.aeth_document.specs.Walks.{place_of, size_of}
-use Rattle.aeth_app.specs.declared.connection.Connection.{Connection}
-use Rattle.aeth_app.specs.declared.connection.Core.{Core}
-use Rattle.aeth_app.specs.declared.connection.Price.{Price}
-use Rattle.aeth_app.specs.declared.connection.Price.TheVariants.{Hops, Pressure}
-use Rattle.aeth_app.specs.declared.connection.Wish.{Wish}
+use Rattle.aeth_app.specs.declared.connection.{Connection.Connection, Core.Core, Price.Price}
+use Rattle.aeth_app.specs.declared.connection.{Price.TheVariants.Hops, Price.TheVariants.Pressure}
+use Rattle.aeth_app.specs.declared.connection.{Wish.Wish}
 use Rattle.aeth_app.specs.App.{UseData}
 use Rattle.aeth_app.specs.Tables.{wish_at}
 

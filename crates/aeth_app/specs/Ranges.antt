@@ -5,17 +5,14 @@
 --   range_checks, out_of_range    the walk over all of them
 --   IsNamed, IsWishInRange, IsConnectionInRange, IsInRange    what holds where none is
 -- This project's own.
-use Rattle.std.specs.Prelude.{ℕ, pos, List, [], ◌∷◌, ◌++◌, ◌||◌, map, flat_map, length, codes}
-use Rattle.std.specs.Prelude.{◌≡◌, ◌≤◌, true, All, Option, Some, None, if◌then◌else◌}
+use Rattle.std.proofs.Common.{ℕ, pos, List, [], ◌∷◌, ◌++◌, ◌||◌, map, flat_map, length, codes, ◌≡◌}
+use Rattle.std.proofs.Common.{◌≤◌, true, All, Option, Some, None, if◌then◌else◌}
 use Rattle.std.specs.Str.{bytes_eq}
 use Rattle.toml.specs.Data.{Members}
-use Rattle.aeth_base.specs.Name.{is_name}
-use Rattle.aeth_base.specs.declared.shown.Broken.{Broken}
-use Rattle.aeth_base.specs.declared.shown.Shown.{Shown}
-use Rattle.aeth_base.specs.Shown.{shown_text}
+use Rattle.aeth_base.specs.{Name.is_name, declared.shown.Broken.Broken, declared.shown.Shown.Shown}
+use Rattle.aeth_base.specs.{Shown.shown_text, Limits.max_receiver_delay}
 use Rattle.aeth_document.specs.Values.{integer_at, text_at, text_if}
 use Rattle.aeth_document.specs.Walks.{first_broken, no_name, outside, size_of}
-use Rattle.aeth_base.specs.Limits.{max_receiver_delay}
 use Rattle.aeth_app.specs.Limits.{app_version, max_connections, max_cores, max_detour, max_latency}
 use Rattle.aeth_app.specs.Limits.{max_per, max_uses, max_words, min_uses}
 use Rattle.aeth_app.specs.Tables.{connections_in, cores_in, names_in, uses_in, wish_at}

@@ -4,13 +4,10 @@
 --   credit_need      the slots for the credits of the other direction's words
 --   back_need, fwd_need, need_of      what a channel needs
 -- Slots and credits: after Æthereal (2005). The numbers: this project's own.
-use Rattle.std.specs.Prelude.{ℕ, ◌*◌, max}
-use Rattle.std.specs.Int.{div_ceil}
-use Rattle.aeth_base.specs.declared.ids.Side.{Side}
-use Rattle.aeth_base.specs.declared.ids.Side.TheVariants.{Fwd, Back}
+use Rattle.std.{proofs.Common.ℕ, proofs.Common.◌*◌, proofs.Common.max, specs.Int.div_ceil}
+use Rattle.aeth_base.specs.declared.ids.Side.{Side, TheVariants.Fwd, TheVariants.Back}
 use Rattle.aeth_base.specs.Limits.{credits_per_flit, words_per_flit}
-use Rattle.aeth_app.specs.declared.connection.Connection.{Connection}
-use Rattle.aeth_app.specs.declared.connection.Wish.{Wish}
+use Rattle.aeth_app.specs.declared.connection.{Connection.Connection, Wish.Wish}
 
 -- The least number of slots of a table that carry a wish's words, two words a slot; at least one.
 abbrev pub own_need : ℕ → Wish → ℕ

@@ -1,13 +1,10 @@
 -- The names of an application file that stand twice.
 -- This project's own.
-use Rattle.std.specs.Prelude.{List, [], ◌++◌, flat_map, codes, Option}
-use Rattle.std.specs.List.{IsDistinct}
-use Rattle.std.specs.Str.{bytes_eq}
+use Rattle.std.proofs.Common.{List, [], ◌++◌, flat_map, codes, Option}
+use Rattle.std.specs.{List.IsDistinct, Str.bytes_eq}
 use Rattle.toml.specs.Data.{Members}
-use Rattle.aeth_base.specs.declared.shown.Broken.{Broken}
-use Rattle.aeth_base.specs.declared.shown.Shown.{Shown}
-use Rattle.aeth_document.specs.Values.{texts_at}
-use Rattle.aeth_document.specs.Walks.{first_broken, repeats}
+use Rattle.aeth_base.specs.declared.shown.{Broken.Broken, Shown.Shown}
+use Rattle.aeth_document.specs.{Values.texts_at, Walks.first_broken, Walks.repeats}
 use Rattle.aeth_app.specs.Tables.{connections_in, cores_in, names_in, uses_in}
 
 -- For each of a use case's connections whether it stands there before.

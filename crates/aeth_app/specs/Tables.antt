@@ -1,6 +1,6 @@
 -- The tables of an application file, by its root table.
 -- This project's own.
-use Rattle.std.specs.Prelude.{ℕ, List, codes, map, unwrap_or}
+use Rattle.std.proofs.Common.{ℕ, List, codes, map, unwrap_or}
 use Rattle.toml.specs.Data.{Members, no_members}
 use Rattle.aeth_document.specs.Values.{table_at, tables_at, text_at}
 

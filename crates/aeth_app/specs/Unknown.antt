@@ -1,11 +1,10 @@
 -- The texts of an application file that name nothing.
 -- This project's own.
-use Rattle.std.specs.Prelude.{ℕ, List, [], ◌∷◌, ◌++◌, map, flat_map, codes, Option, Some, None}
-use Rattle.std.specs.Prelude.{is_none, if◌then◌else◌}
+use Rattle.std.proofs.Common.{ℕ, List, [], ◌∷◌, ◌++◌, map, flat_map, codes, Option, Some, None}
+use Rattle.std.proofs.Common.{is_none, if◌then◌else◌}
 use Rattle.std.specs.List.{filter_map}
 use Rattle.toml.specs.Data.{Members}
-use Rattle.aeth_base.specs.declared.shown.Broken.{Broken}
-use Rattle.aeth_base.specs.declared.shown.Shown.{Shown}
+use Rattle.aeth_base.specs.declared.shown.{Broken.Broken, Shown.Shown}
 use Rattle.aeth_base.specs.Shown.{shown_text}
 use Rattle.aeth_document.specs.Values.{text_at, text_if, texts_at}
 use Rattle.aeth_document.specs.Walks.{first_broken, place_of}

@@ -1,36 +1,26 @@
 -- What an audit is given makes what rows are judged with.
-use Rattle.std.proofs.Common.{◌≡◌, ◌∙◌, ◌<◌, ◌≤◌, ℕ, List, [], length, map}
-use Rattle.std.proofs.Common.{get_or, sym, ap, subst, inl, inr, arith}
-use Rattle.std.proofs.lemmas.Bool.{cases_lt}
-use Rattle.std.specs.Prelude.{All}
-use Rattle.std.specs.List.{range_with_len}
-use Rattle.std.proofs.lemmas.List.{get_or_past, length-map}
-use Rattle.std.proofs.lemmas.List.FromFn.{get_or-map-range_with_len, length-map-range_with_len}
-use Rattle.std.proofs.lemmas.Option.{slice_get-get_or}
-use Rattle.std.specs.List.Sorted.{IsNonDecreasingBy}
+use Rattle.std.proofs.Common.{◌≡◌, ◌∙◌, ◌<◌, ◌≤◌, ℕ, List, [], length, map, get_or, sym, ap, subst}
+use Rattle.std.proofs.Common.{inl, inr, arith, All}
+use Rattle.std.proofs.lemmas.{Bool.cases_lt, List.get_or_past, List.length-map}
+use Rattle.std.proofs.lemmas.{List.FromFn.get_or-map-range_with_len}
+use Rattle.std.proofs.lemmas.{List.FromFn.length-map-range_with_len, Option.slice_get-get_or}
+use Rattle.std.specs.List.{range_with_len, Sorted.IsNonDecreasingBy}
 use Rattle.aeth_chip.specs.Chip.{ChipData}
 use Rattle.aeth_app.specs.App.{AppData, IsAppOf}
 use Rattle.aeth_group.specs.Members.{groups_of}
-use Rattle.aeth_plan.specs.Plan.{PlanData}
-use Rattle.aeth_plan.specs.Design.{IsDesign}
+use Rattle.aeth_plan.specs.{Plan.PlanData, Design.IsDesign}
 use Rattle.aeth_text.specs.Order.{Rises}
-use Rattle.aeth_trace.specs.Switches.{AreSwitchesOf}
-use Rattle.aeth_trace.specs.declared.switches.SwitchRow.{SwitchRow}
+use Rattle.aeth_trace.specs.{Switches.AreSwitchesOf, declared.switches.SwitchRow.SwitchRow}
 use Rattle.aeth_reconf.specs.Timeline.{sessions_at, timeline_of}
-use Rattle.aeth_report.specs.Flows.{Run, sessions_in}
-use Rattle.aeth_report.specs.Sound.{IsSound}
-use Rattle.aeth_report.specs.declared.session.Session.{Session}
+use Rattle.aeth_report.specs.{Flows.Run, Flows.sessions_in, Sound.IsSound}
+use Rattle.aeth_report.specs.{declared.session.Session.Session}
 use Rattle.aeth_report.proofs.SessionsGone.{last_gone, sessions_rise}
 use Rattle.aeth_tables.specs.Switching.{spans_of}
 use Rattle.aeth_accepted.specs.Inputs.{AreAccepted}
-use Rattle.aeth_audit.specs.Judged.{IsJudgeOf, quiet, run_on}
-use Rattle.aeth_audit.specs.Judging.{IsJudge}
-use Rattle.aeth_audit.specs.Limits.{max_link_rows}
-use Rattle.aeth_audit.specs.LinkLog.{is_later}
-use Rattle.aeth_audit.specs.OpenSessions.{IsLastAlone}
-use Rattle.aeth_audit.specs.Starts.{AreStarts}
-use Rattle.aeth_audit.specs.Tables.{IsTable, address_of}
-use Rattle.aeth_audit.specs.declared.judge.Judge.{Judge}
+use Rattle.aeth_audit.specs.{Judged.IsJudgeOf, Judged.quiet, Judged.run_on, Judging.IsJudge}
+use Rattle.aeth_audit.specs.{Limits.max_link_rows, LinkLog.is_later, OpenSessions.IsLastAlone}
+use Rattle.aeth_audit.specs.{Starts.AreStarts, Tables.IsTable, Tables.address_of}
+use Rattle.aeth_audit.specs.{declared.judge.Judge.Judge}
 use Rattle.aeth_audit.proofs.TableLemmas.{placed}
 
 -- The inputs of a run without words are accepted where the plan and the switches are.

@@ -1,19 +1,14 @@
 -- What is added to cells, and what is put at the end of one.
-use Rattle.std.proofs.Common.{◌≡◌, ◌∙◌, ◌<◌, ◌⊎◌, ◌↔◌, ◌++◌, ◌==◌, ℕ, Bool}
-use Rattle.std.proofs.Common.{cond, List, [], ◌∷◌, length, Contains}
-use Rattle.std.proofs.Common.{get_or, sym, ap, subst, inl, inr}
-use Rattle.std.proofs.lemmas.Bool.{cases_Bool, eq-eqb, eqb-true, false≢true}
-use Rattle.std.proofs.lemmas.List.Elements.{Contains-append_cases, Contains-append_left}
-use Rattle.std.proofs.lemmas.List.Elements.{Contains-append_right}
-use Rattle.std.proofs.lemmas.List.{append-nil}
-use Rattle.std.proofs.lemmas.Option.{slice_get-get_or}
-use Rattle.std.specs.Prelude.{slice_set}
-use Rattle.std.specs.declared.alloc.Global.{Global}
-use Rattle.std.specs.declared.vec.Vec.{Vec}
+use Rattle.std.proofs.Common.{◌≡◌, ◌∙◌, ◌<◌, ◌⊎◌, ◌↔◌, ◌++◌, ◌==◌, ℕ, Bool, cond, List, [], ◌∷◌}
+use Rattle.std.proofs.Common.{length, Contains, get_or, sym, ap, subst, inl, inr, eq-eqb, eqb-true}
+use Rattle.std.proofs.Common.{append-nil, slice_set}
+use Rattle.std.proofs.lemmas.{Bool.cases_Bool, Bool.false≢true, List.Elements.Contains-append_cases}
+use Rattle.std.proofs.lemmas.{List.Elements.Contains-append_left}
+use Rattle.std.proofs.lemmas.{List.Elements.Contains-append_right, Option.slice_get-get_or}
+use Rattle.std.specs.declared.{alloc.Global.Global, vec.Vec.Vec}
 use Rattle.aeth_base.proofs.Lists.{slice_get-slice_set_other, slice_get-slice_set_same}
 use Rattle.aeth_base.proofs.Members.{Contains-cases, Contains-here, Contains-nil}
-use Rattle.aeth_audit.specs.Places.{Adds, cell_at}
-use Rattle.aeth_audit.specs.Places.{cell_in}
+use Rattle.aeth_audit.specs.Places.{Adds, cell_at, cell_in}
 use Rattle.aeth_audit.specs.declared.places.Place.{Place}
 
 abbrev pub Cells : Type 0

@@ -1,24 +1,17 @@
 -- The rule that a row breaks, and the first row that breaks one.
 use Rattle.std.proofs.Common.{◌≡◌, ◌∙◌, ◌<◌, ◌+◌, ℕ, zero, suc, Bool, true, false, cond, List, []}
 use Rattle.std.proofs.Common.{◌∷◌, Contains, Option, Some, None, slice_get, refl, sym, ap, subst}
-use Rattle.std.proofs.Common.{inl, inr, arith}
-use Rattle.std.proofs.lemmas.Bool.{true≢false}
+use Rattle.std.proofs.Common.{inl, inr, arith, true≢false, not}
 use Rattle.std.proofs.lemmas.Option.{same_Some}
-use Rattle.std.specs.Prelude.{not}
-use Rattle.aeth_base.proofs.Members.{Contains-here, Contains-nil}
-use Rattle.aeth_base.proofs.Members.{slice_get-Contains}
-use Rattle.aeth_report.specs.Flows.{Run}
-use Rattle.aeth_report.specs.Sound.{IsSound}
-use Rattle.aeth_report.specs.declared.session.Session.{Session}
-use Rattle.aeth_audit.specs.Audit.{broken_by, fault_before, first_fault, is_joined, is_of_channel}
-use Rattle.aeth_audit.specs.Audit.{rule_at}
-use Rattle.aeth_audit.specs.Breaks.{Breaks, IsAuditOf, IsClean}
-use Rattle.aeth_audit.specs.Limits.{broken_off, foreign, unreserved}
-use Rattle.aeth_audit.specs.Reservations.{Reservation, reserved}
-use Rattle.aeth_audit.specs.Reserved.{IsReserved}
-use Rattle.aeth_audit.specs.declared.verdict.Audit.{Audit}
-use Rattle.aeth_audit.specs.declared.verdict.Audit.TheVariants.{Clean, Fault}
-use Rattle.aeth_audit.specs.declared.row.LinkRow.{LinkRow}
+use Rattle.aeth_base.proofs.Members.{Contains-here, Contains-nil, slice_get-Contains}
+use Rattle.aeth_report.specs.{Flows.Run, Sound.IsSound, declared.session.Session.Session}
+use Rattle.aeth_audit.specs.{Audit.broken_by, Audit.fault_before, Audit.first_fault}
+use Rattle.aeth_audit.specs.{Audit.is_joined, Audit.is_of_channel, Audit.rule_at, Breaks.Breaks}
+use Rattle.aeth_audit.specs.{Breaks.IsAuditOf, Breaks.IsClean, Limits.broken_off, Limits.foreign}
+use Rattle.aeth_audit.specs.{Limits.unreserved, Reservations.Reservation, Reservations.reserved}
+use Rattle.aeth_audit.specs.{Reserved.IsReserved, declared.verdict.Audit.Audit}
+use Rattle.aeth_audit.specs.{declared.verdict.Audit.TheVariants.Clean}
+use Rattle.aeth_audit.specs.{declared.verdict.Audit.TheVariants.Fault, declared.row.LinkRow.LinkRow}
 use Rattle.aeth_audit.proofs.OneReservation.{AreSessionsOf, reserved-one}
 use Rattle.aeth_audit.proofs.ReservationLemmas.{reserved-all, reserved-only}
 

@@ -1,22 +1,18 @@
 -- What is in the cell of a link and a slot is what the link may be reserved for in a cycle of the
 -- slot.
-use Rattle.std.proofs.Common.{◌≡◌, ◌∙◌, ◌+◌, ◌-◌, ◌*◌, ◌%◌, ℕ, List, length}
-use Rattle.std.proofs.Common.{Contains, Some, slice_get, refl, sym, ap, subst, arith}
-use Rattle.std.proofs.Math.Nat.{mod-add-mod}
-use Rattle.std.proofs.Math.Nat.{mod-eq_of_lt, mod-lt}
-use Rattle.std.proofs.lemmas.List.Elements.{All-contains}
-use Rattle.std.proofs.lemmas.Nat.{same_from_place}
-use Rattle.std.proofs.lemmas.Option.{same_Some, slice_get_within}
+use Rattle.std.proofs.Common.{◌≡◌, ◌∙◌, ◌+◌, ◌-◌, ◌*◌, ◌%◌, ℕ, List, length, Contains, Some}
+use Rattle.std.proofs.Common.{slice_get, refl, sym, ap, subst, arith}
+use Rattle.std.proofs.Math.Nat.{mod-add-mod, mod-eq_of_lt, mod-lt}
+use Rattle.std.proofs.lemmas.{List.Elements.All-contains, Nat.same_from_place, Option.same_Some}
+use Rattle.std.proofs.lemmas.{Option.slice_get_within}
 use Rattle.aeth_base.proofs.Division.{mod-before}
 use Rattle.aeth_base.proofs.Members.{Contains-slice_get, slice_get-Contains}
 use Rattle.aeth_group.specs.declared.grant.Grant.{Grant}
 use Rattle.aeth_server.proofs.SlotCycleLemmas.{is_slot-member, member-is_slot}
-use Rattle.aeth_slots.proofs.Ascending.{Ascends-bounds}
-use Rattle.aeth_slots.proofs.SlotSetLemmas.{Contains-rotated}
+use Rattle.aeth_slots.proofs.{Ascending.Ascends-bounds, SlotSetLemmas.Contains-rotated}
 use Rattle.aeth_audit.specs.Judging.{IsFound, IsJudge, IsOpenAt}
 use Rattle.aeth_audit.specs.Places.{IsOfGrants, IsPlaced, cell_at}
-use Rattle.aeth_audit.specs.declared.judge.Judge.{Judge}
-use Rattle.aeth_audit.specs.declared.places.Place.{Place}
+use Rattle.aeth_audit.specs.declared.{judge.Judge.Judge, places.Place.Place}
 use Rattle.aeth_audit.proofs.PlaceLemmas.{rotated-below}
 
 -- The cell of a link and of the slot of a cycle.

@@ -1,48 +1,32 @@
 -- What a row is found at is what its link is reserved for, and the rule that it breaks there.
-use Rattle.std.proofs.Common.{◌≡◌, ◌∙◌, ◌+◌, ◌-◌, ◌*◌, ℕ, List, Contains, Option}
-use Rattle.std.proofs.Common.{Some, None, slice_get, refl, sym, ap, subst}
-use Rattle.std.proofs.Common.{arith}
+use Rattle.std.proofs.Common.{◌≡◌, ◌∙◌, ◌+◌, ◌-◌, ◌*◌, ℕ, List, Contains, Option, Some, None}
+use Rattle.std.proofs.Common.{slice_get, refl, sym, ap, subst, arith, ◌==◌, IsTrue, find}
+use Rattle.std.proofs.Common.{option_map, unwrap_or}
 use Rattle.std.proofs.lemmas.Option.{same_Some, slice_get-map}
-use Rattle.std.specs.Prelude.{◌==◌, IsTrue, find, option_map, unwrap_or}
-use Rattle.std.specs.List.{range_with_len, slice_index_or}
-use Rattle.std.specs.Option.{option_map_or}
-use Rattle.aeth_base.specs.declared.ids.CoreId.{CoreId}
-use Rattle.aeth_base.proofs.Members.{Contains-flat_map, Contains-slice_get}
-use Rattle.aeth_base.proofs.Members.{slice_get-Contains}
-use Rattle.aeth_base.proofs.Ranges.{Contains-range}
-use Rattle.aeth_base.proofs.SideLemmas.{own-channel}
+use Rattle.std.specs.{List.range_with_len, List.slice_index_or, Option.option_map_or}
+use Rattle.aeth_base.{specs.declared.ids.CoreId.CoreId, proofs.Members.Contains-flat_map}
+use Rattle.aeth_base.{proofs.Members.Contains-slice_get, proofs.Members.slice_get-Contains}
+use Rattle.aeth_base.{proofs.Ranges.Contains-range, proofs.SideLemmas.own-channel}
 use Rattle.aeth_chip.specs.Paths.{offset}
-use Rattle.aeth_app.specs.App.{AppData, position_of}
-use Rattle.aeth_app.specs.Connections.{receiver}
-use Rattle.aeth_app.specs.Limits.{max_core_connections}
-use Rattle.aeth_group.specs.declared.grant.Grant.{Grant}
-use Rattle.aeth_group.specs.declared.grant.SeatLine.{SeatLine}
-use Rattle.aeth_group.specs.Members.{groups_of}
-use Rattle.aeth_group.proofs.MemberLemmas.{connections-groups_of}
+use Rattle.aeth_app.specs.{App.AppData, App.position_of, Connections.receiver}
+use Rattle.aeth_app.specs.{Limits.max_core_connections}
+use Rattle.aeth_group.{specs.declared.grant.Grant.Grant, specs.declared.grant.SeatLine.SeatLine}
+use Rattle.aeth_group.{specs.Members.groups_of, proofs.MemberLemmas.connections-groups_of}
 use Rattle.aeth_plan.specs.Plan.{IsGrantOf}
 use Rattle.aeth_server.specs.SlotCycles.{is_slot}
 use Rattle.aeth_trace.specs.declared.switches.SwitchRow.{SwitchRow}
 use Rattle.aeth_reconf.specs.Timeline.{sessions_at}
-use Rattle.aeth_report.specs.Channels.{channels_with}
-use Rattle.aeth_report.specs.Design.{grant_at, no_connection, remote_at}
-use Rattle.aeth_report.specs.Sessions.{MayInject}
-use Rattle.aeth_report.specs.Flows.{Run}
-use Rattle.aeth_report.specs.Routes.{route_along}
+use Rattle.aeth_report.specs.{Channels.channels_with, Design.grant_at, Design.no_connection}
+use Rattle.aeth_report.specs.{Design.remote_at, Sessions.MayInject, Flows.Run, Routes.route_along}
 use Rattle.aeth_report.proofs.GrantLemmas.{grant_at-is}
 use Rattle.aeth_tables.proofs.ListLaws.{all_has_by}
-use Rattle.aeth_accepted.proofs.OwnGrants.{grant-own}
-use Rattle.aeth_accepted.proofs.TableFlows.{routes-same}
-use Rattle.aeth_audit.specs.Audit.{broken_by, path_at, rule_at}
-use Rattle.aeth_audit.specs.Judged.{IsJudgeOf, design_for, reservation_of, run_on}
-use Rattle.aeth_audit.specs.Judging.{IsFound}
-use Rattle.aeth_audit.specs.Limits.{unreserved}
-use Rattle.aeth_audit.specs.Reservations.{Reservation}
-use Rattle.aeth_audit.specs.Reserved.{IsReserved}
-use Rattle.aeth_audit.specs.Tables.{address_of, seat_number}
-use Rattle.aeth_audit.specs.declared.judge.Judge.{Judge}
-use Rattle.aeth_audit.specs.declared.places.Place.{Place}
-use Rattle.aeth_audit.specs.declared.row.LinkRow.{LinkRow}
-use Rattle.aeth_audit.specs.declared.table.Address.{Address}
+use Rattle.aeth_accepted.proofs.{OwnGrants.grant-own, TableFlows.routes-same}
+use Rattle.aeth_audit.specs.{Audit.broken_by, Audit.path_at, Audit.rule_at, Judged.IsJudgeOf}
+use Rattle.aeth_audit.specs.{Judged.design_for, Judged.reservation_of, Judged.run_on}
+use Rattle.aeth_audit.specs.{Judging.IsFound, Limits.unreserved, Reservations.Reservation}
+use Rattle.aeth_audit.specs.{Reserved.IsReserved, Tables.address_of, Tables.seat_number}
+use Rattle.aeth_audit.specs.{declared.judge.Judge.Judge, declared.places.Place.Place}
+use Rattle.aeth_audit.specs.{declared.row.LinkRow.LinkRow, declared.table.Address.Address}
 use Rattle.aeth_audit.proofs.FaultLemmas.{reserved-first, reserved-none}
 
 -- The seat of a core that may have no line.

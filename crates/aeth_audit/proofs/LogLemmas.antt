@@ -1,19 +1,14 @@
 -- What holds of the rows of a log that keeps the rules.
-use Rattle.std.proofs.Common.{◌≡◌, ◌≤◌, ◌+◌, ℕ, List, [], ◌∷◌, Option, Some, None}
-use Rattle.std.proofs.Common.{length, map, eqb, ap, inl, inr, arith}
-use Rattle.std.specs.Prelude.{Ok, option_and_then}
-use Rattle.std.proofs.lemmas.Bool.{cases_Bool}
-use Rattle.std.proofs.lemmas.Bool.Decides.{nat_tests}
-use Rattle.std.proofs.lemmas.Option.{same_Some}
+use Rattle.std.proofs.Common.{◌≡◌, ◌≤◌, ◌+◌, ℕ, List, [], ◌∷◌, Option, Some, None, length, map, eqb}
+use Rattle.std.proofs.Common.{ap, inl, inr, arith, Ok, option_and_then}
+use Rattle.std.proofs.lemmas.{Bool.cases_Bool, Bool.Decides.nat_tests, Option.same_Some}
 use Rattle.csv.specs.Records.{field_at}
 use Rattle.aeth_base.specs.Limits.{max_cycles}
 use Rattle.aeth_text.specs.Order.{Rises, RisesAfter}
-use Rattle.aeth_trace.specs.Fields.{number_to}
-use Rattle.aeth_trace.specs.Limits.{max_value}
-use Rattle.aeth_records.specs.Records.{records_of}
-use Rattle.aeth_trace.specs.Rules.{are_known, table_of}
+use Rattle.aeth_trace.specs.{Fields.number_to, Limits.max_value, Rules.are_known, Rules.table_of}
 use Rattle.aeth_trace.proofs.KnownLemmas.{are_known-All}
 use Rattle.aeth_trace.proofs.ToldLemmas.{number_to-within, table-All}
+use Rattle.aeth_records.specs.Records.{records_of}
 use Rattle.aeth_audit.specs.Limits.{link_columns, max_link_rows}
 use Rattle.aeth_audit.specs.LinkLog.{AreLinkRowsOf, are_few_rows, are_later, heads_links, is_later}
 use Rattle.aeth_audit.specs.LinkLog.{link_row_in, number_at, row_with}

@@ -1,23 +1,17 @@
 -- In a sound run a link is reserved in a cycle at one place of one channel's path at most.
 use Rattle.std.proofs.Common.{◌≡◌, ◌∙◌, ◌<◌, ◌+◌, ◌%◌, ℕ, List, Contains, Option, Some, None}
-use Rattle.std.proofs.Common.{slice_get, sym, ap, subst, arith}
+use Rattle.std.proofs.Common.{slice_get, sym, ap, subst, arith, IfSome, unwrap_or}
 use Rattle.std.proofs.lemmas.Option.{same_Some}
-use Rattle.std.specs.Prelude.{IfSome, unwrap_or}
-use Rattle.aeth_base.specs.Limits.{max_path_delay}
-use Rattle.aeth_base.specs.declared.ids.Channel.{Channel}
+use Rattle.aeth_base.specs.{Limits.max_path_delay, declared.ids.Channel.Channel}
 use Rattle.aeth_base.proofs.Members.{slice_get-Contains}
 use Rattle.aeth_chip.specs.Paths.{offset}
 use Rattle.aeth_server.proofs.SlotCycleLemmas.{member-is_slot}
 use Rattle.aeth_reconf.specs.Timeline.{sessions_at}
-use Rattle.aeth_report.specs.Design.{grant_at}
-use Rattle.aeth_report.specs.Flows.{Run, sessions_in}
-use Rattle.aeth_report.specs.Sound.{IsSound}
-use Rattle.aeth_report.specs.declared.session.Close.{Close}
-use Rattle.aeth_report.specs.declared.session.Session.{Session}
+use Rattle.aeth_report.specs.{Design.grant_at, Flows.Run, Flows.sessions_in, Sound.IsSound}
+use Rattle.aeth_report.specs.{declared.session.Close.Close, declared.session.Session.Session}
 use Rattle.aeth_report.proofs.ChannelLemmas.{channels_of-known}
 use Rattle.aeth_report.proofs.OneFlit.{IsReservedFor, reserved_once}
-use Rattle.aeth_audit.specs.Reservations.{Reservation}
-use Rattle.aeth_audit.specs.Reserved.{IsReserved}
+use Rattle.aeth_audit.specs.{Reservations.Reservation, Reserved.IsReserved}
 
 -- These are the sessions of a run.
 abbrev pub AreSessionsOf : Run → List (List Session) → Type 0

@@ -1,14 +1,10 @@
 -- What is put into the cells of links and slots, place by place.
-use Rattle.std.proofs.Common.{◌≡◌, ◌∙◌, ◌<◌, ◌≤◌, ◌⊎◌, ◌↔◌, ◌+◌, ◌*◌, ℕ}
-use Rattle.std.proofs.Common.{List, [], length, Contains, Some, slice_get}
-use Rattle.std.proofs.Common.{refl, sym, ap, subst, inl, inr, arith}
+use Rattle.std.proofs.Common.{◌≡◌, ◌∙◌, ◌<◌, ◌≤◌, ◌⊎◌, ◌↔◌, ◌+◌, ◌*◌, ℕ, List, [], length, Contains}
+use Rattle.std.proofs.Common.{Some, slice_get, refl, sym, ap, subst, inl, inr, arith}
 use Rattle.std.proofs.Math.Nat.{mod-lt, mul-le-mul_right}
-use Rattle.std.proofs.lemmas.Bool.{cases_lt}
-use Rattle.std.proofs.lemmas.Option.{same_Some}
-use Rattle.aeth_base.specs.declared.ids.LinkId.{LinkId}
-use Rattle.aeth_base.proofs.Members.{Contains-nil}
-use Rattle.aeth_chip.specs.Chip.{ChipData}
-use Rattle.aeth_chip.specs.Paths.{offset}
+use Rattle.std.proofs.lemmas.{Bool.cases_lt, Option.same_Some}
+use Rattle.aeth_base.{specs.declared.ids.LinkId.LinkId, proofs.Members.Contains-nil}
+use Rattle.aeth_chip.specs.{Chip.ChipData, Paths.offset}
 use Rattle.aeth_group.specs.declared.grant.Grant.{Grant}
 use Rattle.aeth_slots.specs.SlotSet.{Slots, rotated}
 use Rattle.aeth_slots.proofs.SlotSetLemmas.{Contains-rotated}

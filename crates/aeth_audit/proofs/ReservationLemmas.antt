@@ -1,24 +1,19 @@
 -- The list of reservations has just those that are in words apart from it.
-use Rattle.std.proofs.Common.{◌≡◌, ◌∙◌, ◌<◌, ◌≤◌, ◌+◌, ◌-◌, ℕ, ◌&&◌, Bool, true, false, cond}
-use Rattle.std.proofs.Common.{List, [], ◌∷◌, Contains, Option, Some, None, slice_get, refl, sym, ap}
-use Rattle.std.proofs.Common.{subst, inl, inr, arith}
-use Rattle.std.proofs.lemmas.Bool.{and_from, and_parts, eq-eqb, eqb-true, le-leb}
-use Rattle.std.proofs.lemmas.Bool.{leb-true, lt-ltb, ltb-true}
-use Rattle.std.specs.Prelude.{◌==◌, IfSome, IsTrue, nat_le, nat_lt}
-use Rattle.std.specs.List.{enumerate_from}
-use Rattle.std.specs.Option.{option_map_or}
-use Rattle.aeth_base.specs.declared.ids.Channel.{Channel}
-use Rattle.aeth_base.specs.declared.ids.LinkId.{LinkId}
+use Rattle.std.proofs.Common.{◌≡◌, ◌∙◌, ◌<◌, ◌≤◌, ◌+◌, ◌-◌, ℕ, ◌&&◌, Bool, true, false, cond, List}
+use Rattle.std.proofs.Common.{[], ◌∷◌, Contains, Option, Some, None, slice_get, refl, sym, ap}
+use Rattle.std.proofs.Common.{subst, inl, inr, arith, eq-eqb, eqb-true, le-leb, leb-true, lt-ltb}
+use Rattle.std.proofs.Common.{ltb-true, ◌==◌, IfSome, IsTrue, nat_le, nat_lt}
+use Rattle.std.proofs.lemmas.Bool.{and_from, and_parts}
+use Rattle.std.specs.{List.enumerate_from, Option.option_map_or}
+use Rattle.aeth_base.specs.declared.ids.{Channel.Channel, LinkId.LinkId}
 use Rattle.aeth_base.proofs.Members.{Contains-cases, Contains-flat_map, Contains-here, Contains-nil}
 use Rattle.aeth_base.proofs.Members.{Contains-slice_get, flat_map-Contains, slice_get-Contains}
 use Rattle.aeth_chip.specs.Paths.{offset}
 use Rattle.aeth_server.specs.SlotCycles.{is_slot}
 use Rattle.aeth_reconf.specs.Timeline.{sessions_at}
-use Rattle.aeth_report.specs.Channels.{channels_of}
-use Rattle.aeth_report.specs.Design.{Design, grant_at}
-use Rattle.aeth_report.specs.Sessions.{MayInject}
-use Rattle.aeth_report.specs.declared.session.Close.{Close}
-use Rattle.aeth_report.specs.declared.session.Session.{Session}
+use Rattle.aeth_report.specs.{Channels.channels_of, Design.Design, Design.grant_at}
+use Rattle.aeth_report.specs.{Sessions.MayInject, declared.session.Close.Close}
+use Rattle.aeth_report.specs.{declared.session.Session.Session}
 use Rattle.aeth_report.proofs.Places.{enumerate_from-place, place-enumerate_from}
 use Rattle.aeth_audit.specs.Reservations.{Reservation, is_reserved, may_inject, reserved}
 use Rattle.aeth_audit.specs.Reservations.{reserved_at, reserved_by, reserved_for}

@@ -2,11 +2,9 @@
 use Rattle.std.proofs.Common.{◌≡◌, ◌∙◌, ◌<◌, ◌≤◌, ◌+◌, ℕ, List, Option, Some, None, drop, get_or}
 use Rattle.std.proofs.Common.{length, sym, ap}
 use Rattle.std.proofs.lemmas.List.{at_drop_all, at_drop_more}
-use Rattle.aeth_report.specs.Design.{Design}
-use Rattle.aeth_report.specs.declared.session.Session.{Session}
+use Rattle.aeth_report.specs.{Design.Design, declared.session.Session.Session}
 use Rattle.aeth_audit.specs.Audit.{broken_by, fault_before, first_fault}
-use Rattle.aeth_audit.specs.declared.verdict.Audit.{Audit}
-use Rattle.aeth_audit.specs.declared.verdict.Audit.TheVariants.{Clean, Fault}
+use Rattle.aeth_audit.specs.declared.verdict.Audit.{Audit, TheVariants.Clean, TheVariants.Fault}
 use Rattle.aeth_audit.specs.declared.row.LinkRow.{LinkRow}
 
 module _ (design : Design) (timeline : List (List Session)) (cycles : ℕ) (rows : List LinkRow)

@@ -1,18 +1,15 @@
 -- Lists whose first items pass a test and whose others fail, and rows that rise, searched by
 -- halves.
-use Rattle.std.proofs.Common.{◌≡◌, ◌∙◌, ◌<◌, ◌≤◌, ℕ, zero, suc, Bool, true, false, cond, List}
-use Rattle.std.proofs.Common.{[], ◌∷◌, length, take, filter, slice_get, get_or, Some, None}
-use Rattle.std.proofs.Common.{refl, sym, ap, subst, inl, inr, arith}
-use Rattle.std.proofs.lemmas.Bool.{cases_Bool, cases_lt}
-use Rattle.std.proofs.lemmas.Bool.Decides.{nat_tests}
+use Rattle.std.proofs.Common.{◌≡◌, ◌∙◌, ◌<◌, ◌≤◌, ℕ, zero, suc, Bool, true, false, cond, List, []}
+use Rattle.std.proofs.Common.{◌∷◌, length, take, filter, slice_get, get_or, Some, None, refl, sym}
+use Rattle.std.proofs.Common.{ap, subst, inl, inr, arith, nat_lt, ◌&&◌, ◌||◌, ◌==◌}
+use Rattle.std.proofs.lemmas.Bool.{cases_Bool, cases_lt, Decides.nat_tests}
 use Rattle.std.proofs.lemmas.Option.{get_or_from_slice_get, same_Some, slice_get_within}
-use Rattle.std.specs.Prelude.{nat_lt, ◌&&◌, ◌||◌, ◌==◌}
 use Rattle.std.specs.List.Sorted.{IsNonDecreasingBy, IsPartitionPoint, IsPartitionedBy}
 use Rattle.aeth_text.specs.Order.{Rises, RisesAfter}
 use Rattle.aeth_tables.proofs.FindLaws.{find-at, find-none}
-use Rattle.aeth_audit.specs.Audit.{row_on}
-use Rattle.aeth_audit.specs.LinkLog.{is_before, is_later}
-use Rattle.aeth_audit.specs.declared.row.LinkRow.{LinkRow}
+use Rattle.aeth_audit.specs.{Audit.row_on, LinkLog.is_before, LinkLog.is_later}
+use Rattle.aeth_audit.specs.{declared.row.LinkRow.LinkRow}
 
 module _ {X : Type 0} (test : X → Bool) where
   -- Where the first items pass and the others fail, a filter keeps the first ones.

@@ -1,14 +1,12 @@
 -- Of sessions that go in their order, the last that has gone is the one that may be open.
-use Rattle.std.proofs.Common.{◌≡◌, ◌∙◌, ◌<◌, ◌≤◌, ◌-◌, ℕ, true, false, List}
-use Rattle.std.proofs.Common.{Some, slice_get, sym, ap, subst, inl, inr, arith}
-use Rattle.std.proofs.lemmas.Bool.{and_from, and_parts, cases_lt, eq-eqb, eqb-true, false≢true}
-use Rattle.std.proofs.lemmas.Bool.{le-leb, leb-true}
+use Rattle.std.proofs.Common.{◌≡◌, ◌∙◌, ◌<◌, ◌≤◌, ◌-◌, ℕ, true, false, List, Some, slice_get, sym}
+use Rattle.std.proofs.Common.{ap, subst, inl, inr, arith, eq-eqb, eqb-true, le-leb, leb-true, ◌==◌}
+use Rattle.std.proofs.Common.{◌&&◌, ◌↔◌, IsTrue, nat_le}
+use Rattle.std.proofs.lemmas.Bool.{and_from, and_parts, cases_lt, false≢true}
 use Rattle.std.proofs.lemmas.Option.{get_or_from_slice_get, same_Some, slice_get_within}
-use Rattle.std.specs.Prelude.{◌==◌, ◌&&◌, ◌↔◌, IsTrue, nat_le}
 use Rattle.std.specs.List.Sorted.{IsPartitionPoint}
 use Rattle.aeth_base.proofs.Members.{Contains-slice_get, slice_get-Contains}
-use Rattle.aeth_report.specs.Sessions.{MayInject}
-use Rattle.aeth_report.specs.declared.session.Session.{Session}
+use Rattle.aeth_report.specs.{Sessions.MayInject, declared.session.Session.Session}
 use Rattle.aeth_audit.specs.OpenSessions.{HasOpen, IsLastAlone}
 use Rattle.aeth_audit.specs.Reservations.{may_inject}
 use Rattle.aeth_audit.proofs.ReservationLemmas.{is-may, may-is}

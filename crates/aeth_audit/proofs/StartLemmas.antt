@@ -1,16 +1,13 @@
 -- Laws of the numbers of rows before each cycle.
-use Rattle.std.proofs.Common.{◌≡◌, ◌∙◌, ◌+◌, ◌<◌, ◌≤◌, ℕ, Bool, true, false, List, length, slice_get}
-use Rattle.std.proofs.Common.{get_or, Some, sym, ap, subst, inl, inr, arith}
-use Rattle.std.specs.Prelude.{nat_lt, ◌==◌, ◌||◌, ◌&&◌}
-use Rattle.std.specs.List.{AllWithin}
-use Rattle.std.specs.List.Sorted.{IsPartitionPoint}
-use Rattle.std.proofs.lemmas.Bool.{cases_Bool, cases_lt}
-use Rattle.std.proofs.lemmas.Bool.Decides.{nat_tests}
+use Rattle.std.proofs.Common.{◌≡◌, ◌∙◌, ◌+◌, ◌<◌, ◌≤◌, ℕ, Bool, true, false, List, length}
+use Rattle.std.proofs.Common.{slice_get, get_or, Some, sym, ap, subst, inl, inr, arith, nat_lt}
+use Rattle.std.proofs.Common.{◌==◌, ◌||◌, ◌&&◌}
+use Rattle.std.proofs.lemmas.Bool.{cases_Bool, cases_lt, Decides.nat_tests}
 use Rattle.std.proofs.lemmas.List.{get_or_default}
+use Rattle.std.specs.List.{AllWithin, Sorted.IsPartitionPoint}
 use Rattle.aeth_text.specs.Order.{Rises}
-use Rattle.aeth_audit.specs.LinkLog.{is_before, is_later}
-use Rattle.aeth_audit.specs.Starts.{AreStarts, IsStart, PutsUntil}
-use Rattle.aeth_audit.specs.declared.row.LinkRow.{LinkRow}
+use Rattle.aeth_audit.specs.{LinkLog.is_before, LinkLog.is_later, Starts.AreStarts, Starts.IsStart}
+use Rattle.aeth_audit.specs.{Starts.PutsUntil, declared.row.LinkRow.LinkRow}
 use Rattle.aeth_audit.proofs.SearchLemmas.{before-first, cycles-rise}
 
 -- The cycles up to that of the last of the first rows have their numbers.

@@ -1,19 +1,14 @@
 -- The grants of an accepted plan can be addressed, and placed on the links.
-use Rattle.std.proofs.Common.{◌<◌, length}
-use Rattle.std.specs.Prelude.{All}
+use Rattle.std.proofs.Common.{◌<◌, length, All}
 use Rattle.std.proofs.lemmas.List.Elements.{All-from_recursion}
-use Rattle.aeth_base.specs.declared.ids.LinkId.{LinkId}
-use Rattle.aeth_base.proofs.Members.{Contains-slice_get}
+use Rattle.aeth_base.{specs.declared.ids.LinkId.LinkId, proofs.Members.Contains-slice_get}
 use Rattle.aeth_chip.specs.Chip.{ChipData}
 use Rattle.aeth_app.specs.App.{AppData}
 use Rattle.aeth_group.specs.Members.{groups_of}
-use Rattle.aeth_plan.specs.Plan.{IsGrantOf, PlanData}
-use Rattle.aeth_plan.specs.Design.{IsDesign}
-use Rattle.aeth_tables.proofs.ListLaws.{all_from_places, all_has_by}
-use Rattle.aeth_tables.proofs.PortLaws.{all_sent}
-use Rattle.aeth_tables.proofs.SentLinks.{sent_along}
-use Rattle.aeth_audit.specs.Places.{IsPlaced}
-use Rattle.aeth_audit.specs.Tables.{IsAddressable}
+use Rattle.aeth_plan.specs.{Plan.IsGrantOf, Plan.PlanData, Design.IsDesign}
+use Rattle.aeth_tables.proofs.{ListLaws.all_from_places, ListLaws.all_has_by, PortLaws.all_sent}
+use Rattle.aeth_tables.proofs.{SentLinks.sent_along}
+use Rattle.aeth_audit.specs.{Places.IsPlaced, Tables.IsAddressable}
 
 module _ (chip : ChipData) (app : AppData) (plan : PlanData)
     (design : IsDesign chip app plan) where

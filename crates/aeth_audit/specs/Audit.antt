@@ -7,24 +7,19 @@
 --   fault_before, first_fault, audit_of      the audit of a log
 -- A header that names route and queue, and brings credits back: after Æthereal (2005). The rest:
 -- this project's own.
-use Rattle.std.specs.Prelude.{ℕ, ◌+◌, ◌-◌, ◌*◌, ◌/◌, ◌^◌, ◌==◌, ◌&&◌, ◌||◌, not, nat_le, nat_lt}
-use Rattle.std.specs.Prelude.{Bool, true, false, List, [], ◌∷◌, filter, find, Option, Some, None}
-use Rattle.std.specs.Prelude.{slice_get, if◌then◌else◌}
+use Rattle.std.proofs.Common.{ℕ, ◌+◌, ◌-◌, ◌*◌, ◌/◌, ◌^◌, ◌==◌, ◌&&◌, ◌||◌, not, nat_le, nat_lt}
+use Rattle.std.proofs.Common.{Bool, true, false, List, [], ◌∷◌, filter, find, Option, Some, None}
+use Rattle.std.proofs.Common.{slice_get, if◌then◌else◌}
 use Rattle.std.specs.Option.{option_map_or}
-use Rattle.aeth_base.specs.declared.ids.LinkId.{LinkId}
-use Rattle.aeth_base.specs.Limits.{words_per_flit}
-use Rattle.aeth_chip.specs.Paths.{delay_of}
-use Rattle.aeth_chip.specs.declared.node.Link.{Link}
+use Rattle.aeth_base.specs.{declared.ids.LinkId.LinkId, Limits.words_per_flit}
+use Rattle.aeth_chip.specs.{Paths.delay_of, declared.node.Link.Link}
 use Rattle.aeth_clocked.specs.declared.flit.Flit.{Flit}
-use Rattle.aeth_header.specs.Header.{fields_of, next_word}
-use Rattle.aeth_header.specs.Layout.{port_bits}
-use Rattle.aeth_report.specs.Design.{Design, grant_at, remote_at}
-use Rattle.aeth_report.specs.Routes.{route_along}
-use Rattle.aeth_report.specs.declared.session.Session.{Session}
+use Rattle.aeth_header.specs.{Header.fields_of, Header.next_word, Layout.port_bits}
+use Rattle.aeth_report.specs.{Design.Design, Design.grant_at, Design.remote_at, Routes.route_along}
+use Rattle.aeth_report.specs.{declared.session.Session.Session}
 use Rattle.aeth_audit.specs.Limits.{broken_off, foreign, unreserved}
 use Rattle.aeth_audit.specs.Reservations.{Reservation, reserved}
-use Rattle.aeth_audit.specs.declared.verdict.Audit.{Audit}
-use Rattle.aeth_audit.specs.declared.verdict.Audit.TheVariants.{Clean, Fault}
+use Rattle.aeth_audit.specs.declared.verdict.Audit.{Audit, TheVariants.Clean, TheVariants.Fault}
 use Rattle.aeth_audit.specs.declared.row.LinkRow.{LinkRow}
 
 -- ---- Rule 2

@@ -4,16 +4,13 @@
 --   Breaks, IsClean      a row breaks a rule, or none
 --   IsFirst, IsAuditOf      what an audit says
 -- This project's own.
-use Rattle.std.specs.Prelude.{◌≡◌, ◌<◌, ◌⊎◌, ℕ, ◌+◌, false, List, Contains, Some, slice_get}
-use Rattle.aeth_report.specs.Design.{Design}
-use Rattle.aeth_report.specs.declared.session.Session.{Session}
-use Rattle.aeth_audit.specs.Audit.{is_joined, is_of_channel}
-use Rattle.aeth_audit.specs.Limits.{broken_off, foreign, unreserved}
-use Rattle.aeth_audit.specs.Reservations.{Reservation}
-use Rattle.aeth_audit.specs.Reserved.{IsReserved}
-use Rattle.aeth_audit.specs.declared.verdict.Audit.{Audit}
-use Rattle.aeth_audit.specs.declared.verdict.Audit.TheVariants.{Clean, Fault}
-use Rattle.aeth_audit.specs.declared.row.LinkRow.{LinkRow}
+use Rattle.std.proofs.Common.{◌≡◌, ◌<◌, ◌⊎◌, ℕ, ◌+◌, false, List, Contains, Some, slice_get}
+use Rattle.aeth_report.specs.{Design.Design, declared.session.Session.Session}
+use Rattle.aeth_audit.specs.{Audit.is_joined, Audit.is_of_channel, Limits.broken_off}
+use Rattle.aeth_audit.specs.{Limits.foreign, Limits.unreserved, Reservations.Reservation}
+use Rattle.aeth_audit.specs.{Reserved.IsReserved, declared.verdict.Audit.Audit}
+use Rattle.aeth_audit.specs.{declared.verdict.Audit.TheVariants.Clean}
+use Rattle.aeth_audit.specs.{declared.verdict.Audit.TheVariants.Fault, declared.row.LinkRow.LinkRow}
 
 module _ (design : Design) (timeline : List (List Session)) (cycles : ℕ)
     (rows : List LinkRow) where

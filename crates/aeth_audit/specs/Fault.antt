@@ -1,13 +1,12 @@
 -- The rules that a log of links breaks, as a refusal shows them. Places are rows; the header is row
 -- 0. The first three rules are those of trace files.
 -- This project's own.
-use Rattle.std.specs.Prelude.{ℕ, codes, Option, Some, None}
-use Rattle.aeth_base.specs.Faults.{BrokenRule}
-use Rattle.aeth_base.specs.declared.shown.Shown.TheVariants.{Number}
-pub use Rattle.aeth_trace.specs.Fault.{bad_row, out_of_order, unknown}
+use Rattle.std.proofs.Common.{ℕ, codes, Option, Some, None}
+use Rattle.aeth_base.specs.{Faults.BrokenRule, declared.shown.Shown.TheVariants.Number}
 use Rattle.aeth_audit.specs.declared.fault.LogFault.{LogFault}
 use Rattle.aeth_audit.specs.declared.fault.LogFault.TheVariants.{BadRow, Memory, OutOfOrder}
 use Rattle.aeth_audit.specs.declared.fault.LogFault.TheVariants.{TooMany, Unknown}
+pub use Rattle.aeth_trace.specs.Fault.{bad_row, out_of_order, unknown}
 
 -- Rule 4: there are too many rows. The place is 0; the value is their number.
 abbrev pub too_many_rows : ℕ → BrokenRule

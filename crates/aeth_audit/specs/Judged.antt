@@ -1,20 +1,16 @@
 -- What rows are judged with is made of a chip, an application, a plan and switches.
 -- This project's own.
-use Rattle.std.specs.Prelude.{◌≡◌, ◌<◌, ℕ, List, [], map}
+use Rattle.std.proofs.Common.{◌≡◌, ◌<◌, ℕ, List, [], map}
 use Rattle.aeth_chip.specs.Chip.{ChipData}
 use Rattle.aeth_app.specs.App.{AppData}
 use Rattle.aeth_group.specs.declared.grant.Grant.{Grant}
-use Rattle.aeth_plan.specs.Plan.{PlanData}
-use Rattle.aeth_plan.specs.Design.{IsDesign}
+use Rattle.aeth_plan.specs.{Plan.PlanData, Design.IsDesign}
 use Rattle.aeth_trace.specs.declared.switches.SwitchRow.{SwitchRow}
 use Rattle.aeth_reconf.specs.Timeline.{sessions_at}
-use Rattle.aeth_report.specs.Design.{Design}
-use Rattle.aeth_report.specs.Flows.{Run, sessions_in}
-use Rattle.aeth_report.specs.Sound.{IsSound}
+use Rattle.aeth_report.specs.{Design.Design, Flows.Run, Flows.sessions_in, Sound.IsSound}
 use Rattle.aeth_accepted.specs.Inputs.{Inputs, design_on, run_of}
-use Rattle.aeth_audit.specs.Reservations.{Reservation}
-use Rattle.aeth_audit.specs.Tables.{address_of}
-use Rattle.aeth_audit.specs.declared.judge.Judge.{Judge}
+use Rattle.aeth_audit.specs.{Reservations.Reservation, Tables.address_of}
+use Rattle.aeth_audit.specs.{declared.judge.Judge.Judge}
 
 -- The inputs of a run of a plan through switches, without words.
 abbrev pub quiet : ChipData → AppData → PlanData → List SwitchRow → Inputs

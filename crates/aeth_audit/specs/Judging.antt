@@ -1,20 +1,16 @@
 -- What rows are judged with, and which place of a path a row is found at.
 -- This project's own.
-use Rattle.std.specs.Prelude.{◌≡◌, ◌<◌, ◌≤◌, ◌-◌, ◌*◌, ℕ, All, IsTrue, Some, length}
-use Rattle.std.specs.Prelude.{slice_get}
+use Rattle.std.proofs.Common.{◌≡◌, ◌<◌, ◌≤◌, ◌-◌, ◌*◌, ℕ, All, IsTrue, Some, length, slice_get}
 use Rattle.std.specs.List.Sorted.{IsNonDecreasingBy}
 use Rattle.aeth_chip.specs.Paths.{offset}
 use Rattle.aeth_group.specs.declared.grant.Grant.{Grant}
 use Rattle.aeth_server.specs.SlotCycles.{is_slot}
 use Rattle.aeth_text.specs.Order.{Rises}
 use Rattle.aeth_reconf.specs.Timeline.{sessions_at}
-use Rattle.aeth_audit.specs.Limits.{max_link_rows}
-use Rattle.aeth_audit.specs.LinkLog.{is_later}
-use Rattle.aeth_audit.specs.OpenSessions.{HasOpen, IsLastAlone}
-use Rattle.aeth_audit.specs.Places.{ArePlaces, IsPlaced}
-use Rattle.aeth_audit.specs.Starts.{AreStarts}
-use Rattle.aeth_audit.specs.declared.judge.Judge.{Judge}
-use Rattle.aeth_audit.specs.declared.places.Place.{Place}
+use Rattle.aeth_audit.specs.{Limits.max_link_rows, LinkLog.is_later, OpenSessions.HasOpen}
+use Rattle.aeth_audit.specs.{OpenSessions.IsLastAlone, Places.ArePlaces, Places.IsPlaced}
+use Rattle.aeth_audit.specs.{Starts.AreStarts, declared.judge.Judge.Judge}
+use Rattle.aeth_audit.specs.{declared.places.Place.Place}
 
 -- What holds of what rows are judged with: the places are those of the plan's grants, the sessions
 -- of a connection go in their order and are open one after the other, the rows rise, and each cycle

@@ -1,7 +1,7 @@
 -- The numbers of the rules on logs of links. A cycle is at most the most cycles of a run, and a
 -- word is at most the greatest value of one.
 -- This project's own.
-use Rattle.std.specs.Prelude.{ℕ}
+use Rattle.std.proofs.Common.{ℕ}
 
 -- The most rows of a log.
 abbrev pub max_link_rows : ℕ

@@ -1,9 +1,8 @@
 -- The lines of a log of links: its header, and that of a row.
 -- This project's own.
-use Rattle.std.specs.Prelude.{◌*◌, ℕ, List, [], ◌∷◌, codes, decimal, map}
+use Rattle.std.proofs.Common.{◌*◌, ℕ, List, [], ◌∷◌, codes, decimal, map}
 use Rattle.std.specs.List.{join_with_byte}
-use Rattle.aeth_text.specs.Limits.{comma, field_room}
-use Rattle.aeth_text.specs.Spelling.{ended_line}
+use Rattle.aeth_text.specs.{Limits.comma, Limits.field_room, Spelling.ended_line}
 use Rattle.aeth_audit.specs.declared.row.LinkRow.{LinkRow}
 
 -- The names of the columns.

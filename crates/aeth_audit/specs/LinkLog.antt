@@ -6,23 +6,18 @@
 --   are_few_rows      rule 4, their number
 --   link_log_of, AreLinkRowsOf      the rows of a file, and what holds of them
 -- This project's own.
-use Rattle.std.specs.Prelude.{ℕ, ◌+◌, ◌≤◌, ◌<◌, ◌==◌, ◌&&◌, ◌||◌, All, Bool, true, false, codes}
-use Rattle.std.specs.Prelude.{List, [], ◌∷◌, length, map, nat_le, nat_lt, Option, Some, None}
-use Rattle.std.specs.Prelude.{option_and_then, Result, Ok, Err, if◌then◌else◌}
-use Rattle.std.specs.Option.{option_map_or}
-use Rattle.std.specs.Str.{bytes_eq}
+use Rattle.std.proofs.Common.{ℕ, ◌+◌, ◌≤◌, ◌<◌, ◌==◌, ◌&&◌, ◌||◌, All, Bool, true, false, codes}
+use Rattle.std.proofs.Common.{List, [], ◌∷◌, length, map, nat_le, nat_lt, Option, Some, None}
+use Rattle.std.proofs.Common.{option_and_then, Result, Ok, Err, if◌then◌else◌}
+use Rattle.std.specs.{Option.option_map_or, Str.bytes_eq}
 use Rattle.csv.specs.Records.{field_at}
-use Rattle.aeth_base.specs.Faults.{BrokenRule}
-use Rattle.aeth_base.specs.Limits.{max_cycles}
+use Rattle.aeth_base.specs.{Faults.BrokenRule, Limits.max_cycles}
 use Rattle.aeth_document.specs.Chain.{◌>>=◌}
 use Rattle.aeth_text.specs.Order.{Rises}
-use Rattle.aeth_trace.specs.Fields.{number_to}
-use Rattle.aeth_trace.specs.Limits.{max_value}
+use Rattle.aeth_trace.specs.{Fields.number_to, Limits.max_value, Rules.are_known, Rules.table_of}
 use Rattle.aeth_records.specs.Records.{records_of}
-use Rattle.aeth_trace.specs.Rules.{are_known, table_of}
-use Rattle.aeth_audit.specs.Fault.{out_of_order, too_many_rows}
-use Rattle.aeth_audit.specs.Limits.{link_columns, max_link_rows}
-use Rattle.aeth_audit.specs.declared.row.LinkRow.{LinkRow}
+use Rattle.aeth_audit.specs.{Fault.out_of_order, Fault.too_many_rows, Limits.link_columns}
+use Rattle.aeth_audit.specs.{Limits.max_link_rows, declared.row.LinkRow.LinkRow}
 
 -- Whether the field at a place is this text.
 abbrev pub is_field : List (List ℕ) → ℕ → List ℕ → Bool

@@ -1,8 +1,7 @@
 -- Which sessions of a connection may inject a flit in a cycle.
 -- This project's own.
-use Rattle.std.specs.Prelude.{◌≡◌, ◌≤◌, ◌<◌, ℕ, List, Contains, Some, slice_get}
-use Rattle.aeth_report.specs.Sessions.{MayInject}
-use Rattle.aeth_report.specs.declared.session.Session.{Session}
+use Rattle.std.proofs.Common.{◌≡◌, ◌≤◌, ◌<◌, ℕ, List, Contains, Some, slice_get}
+use Rattle.aeth_report.specs.{Sessions.MayInject, declared.session.Session.Session}
 
 -- A session by the grants of this group may inject a flit in a cycle.
 pub record HasOpen (sessions : List Session) (group u : ℕ) : Type 0 where

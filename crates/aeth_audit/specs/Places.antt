@@ -4,14 +4,11 @@
 --   IsPlaced      a grant of a chip
 --   IsInCell, IsOfGrant, ArePlaces      the places of a path, of a grant and of all grants
 -- Slots along paths: after Æthereal (2005).
-use Rattle.std.specs.Prelude.{◌≡◌, ◌≤◌, ◌<◌, ◌⊎◌, ◌↔◌, ◌+◌, ◌*◌, ℕ, All, Contains, List, [], Option}
-use Rattle.std.specs.Prelude.{Some, None, length, slice_get}
-use Rattle.std.specs.declared.alloc.Global.{Global}
-use Rattle.std.specs.declared.vec.Vec.{Vec}
-use Rattle.aeth_base.specs.Limits.{max_path_links}
-use Rattle.aeth_base.specs.declared.ids.LinkId.{LinkId}
-use Rattle.aeth_chip.specs.Chip.{ChipData}
-use Rattle.aeth_chip.specs.Paths.{offset}
+use Rattle.std.proofs.Common.{◌≡◌, ◌≤◌, ◌<◌, ◌⊎◌, ◌↔◌, ◌+◌, ◌*◌, ℕ, All, Contains, List, [], Option}
+use Rattle.std.proofs.Common.{Some, None, length, slice_get}
+use Rattle.std.specs.declared.{alloc.Global.Global, vec.Vec.Vec}
+use Rattle.aeth_base.specs.{Limits.max_path_links, declared.ids.LinkId.LinkId}
+use Rattle.aeth_chip.specs.{Chip.ChipData, Paths.offset}
 use Rattle.aeth_group.specs.declared.grant.Grant.{Grant}
 use Rattle.aeth_slots.specs.SlotSet.{Ascends, rotated}
 use Rattle.aeth_audit.specs.declared.places.Place.{Place}

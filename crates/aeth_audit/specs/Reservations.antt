@@ -6,18 +6,15 @@
 --   is_reserved, reserved_at, reserved_for      one place, and those of a session
 --   reserved_by, reserved      those of a channel, and of all channels
 -- Slots along paths: after Æthereal (2005). The rest: this project's own.
-use Rattle.std.specs.Prelude.{ℕ, ◌-◌, ◌==◌, ◌&&◌, Bool, true, nat_le, nat_lt, List, [], ◌∷◌}
-use Rattle.std.specs.Prelude.{flat_map, if◌then◌else◌}
-use Rattle.std.specs.List.{enumerate_from}
-use Rattle.std.specs.Option.{option_map_or}
-use Rattle.aeth_base.specs.declared.ids.Channel.{Channel}
-use Rattle.aeth_base.specs.declared.ids.LinkId.{LinkId}
+use Rattle.std.proofs.Common.{ℕ, ◌-◌, ◌==◌, ◌&&◌, Bool, true, nat_le, nat_lt, List, [], ◌∷◌}
+use Rattle.std.proofs.Common.{flat_map, if◌then◌else◌}
+use Rattle.std.specs.{List.enumerate_from, Option.option_map_or}
+use Rattle.aeth_base.specs.declared.ids.{Channel.Channel, LinkId.LinkId}
 use Rattle.aeth_chip.specs.Paths.{offset}
 use Rattle.aeth_server.specs.SlotCycles.{is_slot}
 use Rattle.aeth_reconf.specs.Timeline.{sessions_at}
-use Rattle.aeth_report.specs.Channels.{channels_of}
-use Rattle.aeth_report.specs.Design.{Design, grant_at}
-use Rattle.aeth_report.specs.declared.session.Session.{Session}
+use Rattle.aeth_report.specs.{Channels.channels_of, Design.Design, Design.grant_at}
+use Rattle.aeth_report.specs.{declared.session.Session.Session}
 
 -- A reserved place: the channel, the group by whose grant it is reserved, and the place of the
 -- path.

@@ -1,13 +1,11 @@
 -- A reservation in words apart from their list.
 -- Slots along paths: after Æthereal (2005).
-use Rattle.std.specs.Prelude.{◌≡◌, ◌+◌, ℕ, IsTrue, List, Contains, Some, slice_get}
+use Rattle.std.proofs.Common.{◌≡◌, ◌+◌, ℕ, IsTrue, List, Contains, Some, slice_get}
 use Rattle.aeth_chip.specs.Paths.{offset}
 use Rattle.aeth_server.specs.SlotCycles.{is_slot}
 use Rattle.aeth_reconf.specs.Timeline.{sessions_at}
-use Rattle.aeth_report.specs.Channels.{channels_of}
-use Rattle.aeth_report.specs.Design.{Design, grant_at}
-use Rattle.aeth_report.specs.Sessions.{MayInject}
-use Rattle.aeth_report.specs.declared.session.Session.{Session}
+use Rattle.aeth_report.specs.{Channels.channels_of, Design.Design, Design.grant_at}
+use Rattle.aeth_report.specs.{Sessions.MayInject, declared.session.Session.Session}
 use Rattle.aeth_audit.specs.Reservations.{Reservation}
 
 -- A link is reserved in a cycle: a session of the channel, by the grants of the group, may inject a

@@ -4,7 +4,7 @@
 --   AreStarts      that of each cycle, up to that of the last row
 --   PutsUntil      the cycles up to one got a number
 -- This project's own.
-use Rattle.std.specs.Prelude.{◌≡◌, ◌⊎◌, ◌<◌, ◌≤◌, ℕ, List, Some, length, slice_get}
+use Rattle.std.proofs.Common.{◌≡◌, ◌⊎◌, ◌<◌, ◌≤◌, ℕ, List, Some, length, slice_get}
 use Rattle.std.specs.List.Sorted.{IsPartitionPoint}
 use Rattle.aeth_audit.specs.declared.row.LinkRow.{LinkRow}
 

@@ -4,23 +4,18 @@
 --   IsAddressable      a grant of a chip and an application
 --   IsTable      what is made of a plan
 -- This project's own.
-use Rattle.std.specs.Prelude.{◌≡◌, ◌<◌, ◌+◌, ◌*◌, ℕ, All, List, drop, length, map}
-use Rattle.std.specs.List.{slice_index_or}
-use Rattle.std.specs.Option.{option_map_or}
+use Rattle.std.proofs.Common.{◌≡◌, ◌<◌, ◌+◌, ◌*◌, ℕ, All, List, drop, length, map}
+use Rattle.std.specs.{List.slice_index_or, Option.option_map_or}
 use Rattle.aeth_base.specs.declared.ids.CoreId.{CoreId}
 use Rattle.aeth_chip.specs.Chip.{ChipData}
-use Rattle.aeth_app.specs.App.{AppData, position_of}
-use Rattle.aeth_app.specs.Connections.{receiver}
-use Rattle.aeth_app.specs.Limits.{max_core_connections}
-use Rattle.aeth_group.specs.declared.grant.Grant.{Grant}
-use Rattle.aeth_group.specs.declared.grant.SeatLine.{SeatLine}
+use Rattle.aeth_app.specs.{App.AppData, App.position_of, Connections.receiver}
+use Rattle.aeth_app.specs.{Limits.max_core_connections}
+use Rattle.aeth_group.specs.declared.grant.{Grant.Grant, SeatLine.SeatLine}
 use Rattle.aeth_plan.specs.Plan.{PlanData}
 use Rattle.aeth_report.specs.Design.{no_connection}
-use Rattle.aeth_tables.specs.Granted.{line_of}
-use Rattle.aeth_tables.specs.Routes.{IsSent, route_along}
+use Rattle.aeth_tables.specs.{Granted.line_of, Routes.IsSent, Routes.route_along}
 use Rattle.aeth_audit.specs.Places.{ArePlaces}
-use Rattle.aeth_audit.specs.declared.table.Address.{Address}
-use Rattle.aeth_audit.specs.declared.table.Table.{Table}
+use Rattle.aeth_audit.specs.declared.table.{Address.Address, Table.Table}
 
 -- The number of the seat of a core; 0 where no line seats it.
 abbrev pub seat_number : List SeatLine → CoreId → ℕ

@@ -1,12 +1,11 @@
 -- Names that differ are found where they stand.
-use Rattle.std.proofs.Common.{◌≡◌, ◌∙◌, ℕ, zero, suc, true, false, List, [], ◌∷◌, length}
-use Rattle.std.proofs.Common.{Some, slice_get, refl, sym, ap, inl, inr, arith}
-use Rattle.std.specs.List.{IsDistinct, position, position_or_len}
-use Rattle.std.specs.Str.{bytes_eq}
-use Rattle.std.proofs.lemmas.Bool.{cases_Bool, cond-true, false≢true, lt-ltb}
+use Rattle.std.proofs.Common.{◌≡◌, ◌∙◌, ℕ, zero, suc, true, false, List, [], ◌∷◌, length, Some}
+use Rattle.std.proofs.Common.{slice_get, refl, sym, ap, inl, inr, arith, lt-ltb}
+use Rattle.std.proofs.lemmas.Bool.{cases_Bool, cond-true, false≢true}
 use Rattle.std.proofs.lemmas.Map.Keys.{IsDistinct-tail, apart_from_distinct}
 use Rattle.std.proofs.lemmas.Option.{get_or_from_slice_get, same_Some, slice_get_within}
 use Rattle.std.proofs.lemmas.Slice.Eq.{bytes_eq-Decides}
+use Rattle.std.specs.{List.IsDistinct, List.position, List.position_or_len, Str.bytes_eq}
 
 -- The first place of a name among names that differ is its own.
 first_place : (names : List (List ℕ)) (i : ℕ) (name : List ℕ) → IsDistinct bytes_eq names

@@ -1,9 +1,9 @@
 -- Laws of quotients that are rounded up, and of numbers round a table.
 use Rattle.std.proofs.Common.{ℕ, ◌≡◌, ◌∙◌, ◌+◌, ◌-◌, ◌*◌, ◌/◌, ◌%◌, ◌<◌, ◌≤◌, sym, ap, arith}
-use Rattle.std.specs.Int.{div_ceil}
 use Rattle.std.proofs.lemmas.Grind.{div_ceil_times}
-use Rattle.std.proofs.Math.Nat.{add-mod_right, add-mul-mod_self_left, div-add-mod, mod-add-mod, mod-lt}
-use Rattle.std.proofs.Math.Nat.{lt_of_mul-lt-mul_right, mul-le-mul_left}
+use Rattle.std.proofs.Math.Nat.{add-mod_right, add-mul-mod_self_left, div-add-mod, mod-add-mod}
+use Rattle.std.proofs.Math.Nat.{mod-lt, lt_of_mul-lt-mul_right, mul-le-mul_left}
+use Rattle.std.specs.Int.{div_ceil}
 
 -- A quotient that is rounded up is at most a number where the product is.
 pub div_ceil-le : (x y n : ℕ) → 0 < y → x ≤ y * n → div_ceil x y ≤ n

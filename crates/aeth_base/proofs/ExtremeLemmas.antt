@@ -1,9 +1,8 @@
 -- The least and the greatest among the numbers below a bound, and the greater of two numbers.
 use Rattle.std.proofs.Common.{ℕ, ◌-◌, ◌<◌, ◌≤◌, ◌≡◌, ◌∙◌, zero, suc, Bool, true, false, cond, max}
 use Rattle.std.proofs.Common.{refl, sym, ap, inl, inr, arith}
+use Rattle.std.proofs.lemmas.Bool.{cases_eq, cases_lt, Decides.nat_tests}
 use Rattle.std.specs.Ordering.{nat_cmp, ord_max}
-use Rattle.std.proofs.lemmas.Bool.{cases_eq, cases_lt}
-use Rattle.std.proofs.lemmas.Bool.Decides.{nat_tests}
 use Rattle.aeth_base.specs.Extremes.{least_below, greatest_below}
 
 -- A number below the bound that passes the test.

@@ -2,15 +2,14 @@
 -- whether some element passes a test, and of how many do; of sums; and of numbers that never fall.
 use Rattle.std.proofs.Common.{◌≡◌, ◌≢◌, ◌<◌, ◌+◌, ◌∙◌, ℕ, zero, suc, Bool, true, false, List, []}
 use Rattle.std.proofs.Common.{◌∷◌, length, take, Option, Some, None, slice_get, cond, refl, sym, ap}
-use Rattle.std.proofs.Common.{◌⊎◌, ◌≤◌, ◌||◌, ◌++◌, drop, map, arith, inl, inr}
-use Rattle.std.specs.Option.{option_map}
-use Rattle.std.specs.List.{count_by, list_any, slice_set, sum_by}
-use Rattle.std.specs.List.Sorted.{IsNonDecreasing}
+use Rattle.std.proofs.Common.{◌⊎◌, ◌≤◌, ◌||◌, ◌++◌, drop, map, arith, inl, inr, take_all}
 use Rattle.std.proofs.lemmas.Bool.{cases_Bool}
-use Rattle.std.proofs.lemmas.List.Sums.{sum_by-cons}
-use Rattle.std.proofs.lemmas.List.{drop_more, take-append-le, take_all, take_more}
-use Rattle.std.proofs.lemmas.Option.{get_or_from_slice_get, none-some, same_Some}
-use Rattle.std.proofs.lemmas.Option.{slice_get-map, slice_get_within}
+use Rattle.std.proofs.lemmas.List.{Sums.sum_by-cons, drop_more, take-append-le, take_more}
+use Rattle.std.proofs.lemmas.Option.{get_or_from_slice_get, none-some, same_Some, slice_get-map}
+use Rattle.std.proofs.lemmas.Option.{slice_get_within}
+use Rattle.std.proofs.lemmas.{Option.slice_get-map}
+use Rattle.std.specs.Option.{option_map}
+use Rattle.std.specs.List.{count_by, list_any, slice_set, sum_by, Sorted.IsNonDecreasing}
 
 -- A test of what is shown of some element is a test of what is shown of all.
 pub list_any-map : {X Y : Type 0} (test : Y → Bool) (f : X → Y) (xs : List X)

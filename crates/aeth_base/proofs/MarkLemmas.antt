@@ -1,15 +1,13 @@
 -- Laws of masks: what a write of one mask changes, and the first bit that is left of one.
-use Rattle.std.proofs.Common.{ℕ, ◌≡◌, ◌≢◌, ◌<◌, ◌≤◌, ◌+◌, ◌-◌, ◌*◌}
-use Rattle.std.proofs.Common.{◌/◌, ◌%◌, ◌^◌, ◌∙◌, refl, sym, ap, arith}
-use Rattle.std.proofs.Common.{inl, inr, List, drop, length, replicate, set, take}
-use Rattle.std.specs.Prelude.{slice_index}
-use Rattle.std.specs.Int.{bit_at, trailing_zeros, w64}
+use Rattle.std.proofs.Common.{ℕ, ◌≡◌, ◌≢◌, ◌<◌, ◌≤◌, ◌+◌, ◌-◌, ◌*◌, ◌/◌, ◌%◌, ◌^◌, ◌∙◌, refl, sym}
+use Rattle.std.proofs.Common.{ap, arith, inl, inr, List, drop, length, replicate, set, take}
+use Rattle.std.proofs.Common.{slice_index, get_or-drop, get_or-set_other, get_or-set_same}
+use Rattle.std.proofs.Common.{get_or-take, length-take, shr-shr}
 use Rattle.std.proofs.Math.Nat.{lt_of_le_of_lt}
-use Rattle.std.proofs.lemmas.Bool.{cases_eq, cases_lt}
-use Rattle.std.proofs.lemmas.List.{get_or-drop, get_or-replicate, get_or-set_other, get_or-set_same}
-use Rattle.std.proofs.lemmas.List.{get_or-take, get_or_past, length-replicate, length-take}
-use Rattle.std.proofs.lemmas.Nat.{shr-shr, shr_le}
-use Rattle.std.proofs.lemmas.Nat.Bits.{bit_at-zero, bit_at_above, bit_at-trailing_zeros}
+use Rattle.std.proofs.lemmas.{Bool.cases_eq, Bool.cases_lt, List.get_or-replicate, List.get_or_past}
+use Rattle.std.proofs.lemmas.{List.length-replicate, Nat.shr_le, Nat.Bits.bit_at-zero}
+use Rattle.std.proofs.lemmas.{Nat.Bits.bit_at_above, Nat.Bits.bit_at-trailing_zeros}
+use Rattle.std.specs.Int.{bit_at, trailing_zeros, w64}
 use Rattle.aeth_base.specs.Marks.{bit_of, numbers_of_mask}
 
 -- A mask is written at a number's place: the bits of its own mask are the new ones, and all others

@@ -1,11 +1,9 @@
 -- Laws of numbers from one on that pass a test, and of those that are marked.
 use Rattle.std.proofs.Common.{ℕ, zero, suc, ◌≡◌, ◌<◌, ◌≤◌, ◌+◌, ◌-◌, ◌/◌, ◌%◌, ◌∙◌, refl, sym, ap}
 use Rattle.std.proofs.Common.{arith, inl, inr, Bool, true, false, List, [], ◌∷◌, cond, drop, filter}
-use Rattle.std.proofs.Common.{subst}
-use Rattle.std.specs.Prelude.{slice_index}
+use Rattle.std.proofs.Common.{subst, slice_index, eq-eqb, eqb-true}
+use Rattle.std.proofs.lemmas.{Bool.cases_Bool, Bool.cases_eq, Nat.Bits.bit_at-lt}
 use Rattle.std.specs.List.{range_with_len}
-use Rattle.std.proofs.lemmas.Bool.{cases_Bool, cases_eq, eq-eqb, eqb-true}
-use Rattle.std.proofs.lemmas.Nat.Bits.{bit_at-lt}
 use Rattle.aeth_base.specs.Marks.{bit_of, is_marked}
 use Rattle.aeth_base.proofs.Filters.{filter-no, filter-yes}
 

@@ -1,13 +1,11 @@
 -- Laws of the marked numbers, mask by mask.
 use Rattle.std.proofs.Common.{ℕ, ◌≡◌, ◌≢◌, ◌<◌, ◌≤◌, ◌+◌, ◌-◌, ◌*◌, ◌/◌, ◌%◌, ◌^◌, ◌∙◌, refl, sym}
 use Rattle.std.proofs.Common.{ap, arith, inl, inr, true, false, List, [], ◌∷◌, eqb, filter, length}
-use Rattle.std.proofs.Common.{length-set, set}
-use Rattle.std.specs.Prelude.{slice_index}
-use Rattle.std.specs.Int.{bit_at, trailing_zeros, w64}
-use Rattle.std.specs.List.{range_with_len}
-use Rattle.std.proofs.lemmas.Bool.{cases_eq, eq-eqb, ne_eqb}
-use Rattle.std.proofs.lemmas.List.{get_or-set_other, get_or-set_same, set-get_or}
-use Rattle.std.proofs.lemmas.Nat.Bits.{bit_at-trailing_zeros, bit_at-zero}
+use Rattle.std.proofs.Common.{length-set, set, slice_index, eq-eqb, ne_eqb, get_or-set_other}
+use Rattle.std.proofs.Common.{get_or-set_same}
+use Rattle.std.proofs.lemmas.{Bool.cases_eq, List.set-get_or, Nat.Bits.bit_at-trailing_zeros}
+use Rattle.std.proofs.lemmas.{Nat.Bits.bit_at-zero}
+use Rattle.std.specs.{Int.bit_at, Int.trailing_zeros, Int.w64, List.range_with_len}
 use Rattle.aeth_base.specs.Marks.{bit_of, is_marked, marked_from, room_of}
 use Rattle.aeth_base.proofs.MarkedLemmas.{filter-first, filter-skip}
 

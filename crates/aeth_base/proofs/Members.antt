@@ -1,16 +1,14 @@
 -- What is in a list, as `Contains` has it: at a head and a rest, at a place, under `map`, `filter`,
 -- `filter_map` and `flat_map`, and by a test.
 use Rattle.std.proofs.Common.{◌≡◌, ◌≢◌, ◌<◌, ◌⊎◌, ◌∙◌, ℕ, zero, suc, Bool, true, false, cond, eqb}
-use Rattle.std.proofs.Common.{List, [], ◌∷◌, length, map, filter, All, Contains, slice_get}
-use Rattle.std.proofs.Common.{Option, Some, None}
-use Rattle.std.proofs.Common.{arith, refl, sym, ap, subst, inl, inr}
-use Rattle.std.specs.List.{cons_option, filter_map, flat_map, list_any}
-use Rattle.std.proofs.lemmas.Bool.{both_ways, eq-eqb, eqb-true, or_cases, or_left, or_right}
-use Rattle.std.proofs.lemmas.List.{get_or-map, length-map}
-use Rattle.std.proofs.lemmas.List.Concat.{flat_map-cons}
-use Rattle.std.proofs.lemmas.List.Elements.{Contains-append_cases, Contains-append_left}
-use Rattle.std.proofs.lemmas.List.Elements.{Contains-append_right}
+use Rattle.std.proofs.Common.{List, [], ◌∷◌, length, map, filter, All, Contains, slice_get, Option}
+use Rattle.std.proofs.Common.{Some, None, arith, refl, sym, ap, subst, inl, inr, eq-eqb, eqb-true}
+use Rattle.std.proofs.lemmas.Bool.{both_ways, or_cases, or_left, or_right}
+use Rattle.std.proofs.lemmas.List.{get_or-map, length-map, Concat.flat_map-cons}
+use Rattle.std.proofs.lemmas.List.{Elements.Contains-append_cases, Elements.Contains-append_left}
+use Rattle.std.proofs.lemmas.List.{Elements.Contains-append_right}
 use Rattle.std.proofs.lemmas.Option.{get_or_from_slice_get, slice_get-get_or, slice_get_within}
+use Rattle.std.specs.List.{cons_option, filter_map, flat_map, list_any}
 
 -- Nothing is in an empty list.
 pub Contains-nil : {X P : Type 0} {x : X} → Contains [] x → P

@@ -1,13 +1,9 @@
 -- Laws of names: they lie padded in memory, and are equal where their bytes are.
-use Rattle.std.proofs.Common.{◌≡◌, ◌≤◌, ◌-◌, ◌++◌, ◌∙◌, ℕ, true, List, Some, length, drop}
-use Rattle.std.proofs.Common.{ap, arith, sym}
-use Rattle.std.specs.Prelude.{replicate}
-use Rattle.std.proofs.lemmas.List.{drop-replicate, length-append, length-replicate}
-use Rattle.std.proofs.lemmas.Option.{cond_some}
+use Rattle.std.proofs.Common.{◌≡◌, ◌≤◌, ◌-◌, ◌++◌, ◌∙◌, ℕ, true, List, Some, length, drop, ap}
+use Rattle.std.proofs.Common.{arith, sym, replicate, length-append}
+use Rattle.std.proofs.lemmas.{List.drop-replicate, List.length-replicate, Option.cond_some}
 use Rattle.std.proofs.Math.Seq.{drop-append_seam, take-append_seam}
-use Rattle.aeth_base.specs.Limits.{max_name_bytes}
-use Rattle.aeth_base.specs.Name.{is_name, name_of}
-use Rattle.aeth_base.specs.NameBytes.{IsPadded}
+use Rattle.aeth_base.specs.{Limits.max_name_bytes, Name.is_name, Name.name_of, NameBytes.IsPadded}
 
 -- A text that is a name is this name.
 pub name_only : (word name : List ℕ) → name_of word ≡ Some name

@@ -1,14 +1,11 @@
 -- Names and their first places, as one name more is entered behind the others.
-use Rattle.std.proofs.Common.{◌≡◌, ◌+◌, ◌++◌, ◌∷◌, ◌∙◌, [], ℕ, Bool, true, false, cond, List, Option}
-use Rattle.std.proofs.Common.{Some, None, ap, arith, inl, inr, length, is_some, refl, sym}
+use Rattle.std.proofs.Common.{◌≡◌, ◌+◌, ◌++◌, ◌∷◌, ◌∙◌, [], ℕ, Bool, true, false, cond, List}
+use Rattle.std.proofs.Common.{Option, Some, None, ap, arith, inl, inr, length, is_some, refl, sym}
+use Rattle.std.proofs.lemmas.{Bool.cases_Bool, Bool.false≢true, Cmp.nat_list_eq_equiv}
+use Rattle.std.proofs.lemmas.{Iterator.Adapters.position_from-zero, Option.none-some}
+use Rattle.std.proofs.lemmas.{Slice.Eq.bytes_eq-Decides}
+use Rattle.std.specs.{List.position, List.position_from, Str.bytes_eq}
 use Rattle.indexmap.specs.IndexMap.{IndexMap, Updates, get}
-use Rattle.std.specs.List.{position, position_from}
-use Rattle.std.specs.Str.{bytes_eq}
-use Rattle.std.proofs.lemmas.Bool.{cases_Bool, false≢true}
-use Rattle.std.proofs.lemmas.Cmp.{nat_list_eq_equiv}
-use Rattle.std.proofs.lemmas.Iterator.Adapters.{position_from-zero}
-use Rattle.std.proofs.lemmas.Option.{none-some}
-use Rattle.std.proofs.lemmas.Slice.Eq.{bytes_eq-Decides}
 use Rattle.aeth_base.specs.Names.{HaveFirstPlaces}
 
 -- A place that is found in the front of a list is found in the list.

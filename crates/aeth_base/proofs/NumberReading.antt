@@ -1,20 +1,15 @@
 -- How the canonical decimal of a number is read: digit by digit, and not where another `0` leads.
-use Rattle.std.proofs.Common.{ℕ, ◌+◌, ◌*◌, ◌^◌, ◌<◌, ◌≡◌, ◌∙◌, ◌&&◌, cond, ltb}
-use Rattle.std.proofs.Common.{List, length, take, get_or, Some, None, sym, ap, subst}
-use Rattle.std.proofs.Common.{arith, inl, inr}
-use Rattle.std.specs.Char.{digit_value}
-use Rattle.std.specs.Fmt.{decimal}
-use Rattle.std.specs.Str.Parse.{AllDigits, digits_value}
-use Rattle.std.proofs.lemmas.Bool.{and_from, and_parts, cases_Bool, cases_eq, cond-true, lt-ltb}
-use Rattle.std.proofs.lemmas.Bool.{ltb-true}
+use Rattle.std.proofs.Common.{ℕ, ◌+◌, ◌*◌, ◌^◌, ◌<◌, ◌≡◌, ◌∙◌, ◌&&◌, cond, ltb, List, length, take}
+use Rattle.std.proofs.Common.{get_or, Some, None, sym, ap, subst, arith, inl, inr, lt-ltb, ltb-true}
+use Rattle.std.proofs.Common.{take_all}
+use Rattle.std.proofs.lemmas.Bool.{and_from, and_parts, cases_Bool, cases_eq, cond-true}
 use Rattle.std.proofs.lemmas.Fmt.{decimal-digits_value, decimal_digit, decimal_is_IsNumeral}
 use Rattle.std.proofs.lemmas.Fmt.{decimal_nonempty, first_decimal}
 use Rattle.std.proofs.lemmas.Int.Digits.{digits_more, digits_value_more}
-use Rattle.std.proofs.lemmas.List.{take_all}
 use Rattle.std.proofs.lemmas.Option.{none-some, same_Some}
-use Rattle.std.proofs.lemmas.Str.{digit_value_digit}
-use Rattle.std.proofs.lemmas.Str.Parse.{digit_at, digits_value-take-le, numerals_by_value}
-use Rattle.std.proofs.lemmas.Str.Parse.{tells_digits}
+use Rattle.std.proofs.lemmas.Str.{digit_value_digit, Parse.digit_at, Parse.digits_value-take-le}
+use Rattle.std.proofs.lemmas.Str.{Parse.numerals_by_value, Parse.tells_digits}
+use Rattle.std.specs.{Char.digit_value, Fmt.decimal, Str.Parse.AllDigits, Str.Parse.digits_value}
 use Rattle.aeth_base.specs.Number.{IsLed, number_of, with_digit}
 use Rattle.aeth_base.proofs.Numbers.{number_of-decimal, number_of-none}
 

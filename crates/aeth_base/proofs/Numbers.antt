@@ -1,13 +1,10 @@
 -- Laws of `number_of`: it is the inverse of `decimal`.
 use Rattle.std.proofs.Common.{ℕ, ◌^◌, ◌<◌, ◌≡◌, ◌∙◌, Bool, true, false, ◌&&◌, cond, ltb, List, Some}
-use Rattle.std.proofs.Common.{None, refl, ap}
-use Rattle.std.specs.Fmt.{decimal}
-use Rattle.std.specs.Str.{bytes_eq}
-use Rattle.std.specs.Str.Parse.{digits_value}
-use Rattle.std.proofs.lemmas.Fmt.{decimal_is_IsNumeral}
-use Rattle.std.proofs.lemmas.Bool.{and_from, and_parts, lt-ltb, ltb-true, cond-true}
-use Rattle.std.proofs.lemmas.Option.{same_Some, none-some}
-use Rattle.std.proofs.lemmas.Slice.Eq.{bytes_eq-Decides}
+use Rattle.std.proofs.Common.{None, refl, ap, lt-ltb, ltb-true}
+use Rattle.std.proofs.lemmas.{Fmt.decimal_is_IsNumeral, Bool.and_from, Bool.and_parts}
+use Rattle.std.proofs.lemmas.{Bool.cond-true, Option.same_Some, Option.none-some}
+use Rattle.std.proofs.lemmas.{Slice.Eq.bytes_eq-Decides}
+use Rattle.std.specs.{Fmt.decimal, Str.bytes_eq, Str.Parse.digits_value}
 use Rattle.aeth_base.specs.Number.{number_of}
 
 abbrev is_decimal : ℕ → List ℕ → Bool

@@ -1,9 +1,8 @@
 -- Laws of paths in memory.
 use Rattle.std.proofs.Common.{◌≡◌, ◌∙◌, ◌+◌, ◌-◌, ◌<◌, ℕ, List, drop, set, sym, ap, arith}
-use Rattle.std.specs.Prelude.{replicate}
-use Rattle.std.proofs.lemmas.List.{drop-drop, drop-replicate, drop-set-lt, length-set}
-use Rattle.aeth_base.specs.declared.ids.LinkId.{LinkId}
-use Rattle.aeth_base.specs.PathLinks.{IsFilled, filler}
+use Rattle.std.proofs.Common.{replicate, drop-drop, drop-set-lt, length-set}
+use Rattle.std.proofs.lemmas.List.{drop-replicate}
+use Rattle.aeth_base.specs.{declared.ids.LinkId.LinkId, PathLinks.IsFilled, PathLinks.filler}
 
 -- A link that is written behind the others leaves the filler behind it.
 pub is_filled-push : (links : List LinkId) (len : ℕ) (link : LinkId) → IsFilled links len → len < 8

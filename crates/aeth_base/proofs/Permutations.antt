@@ -1,13 +1,12 @@
 -- Permutations of the numbers below a count.
-use Rattle.std.proofs.Common.{ℕ, zero, suc, ◌<◌, ◌≡◌, sym, subst, arith, List, [], ◌∷◌, ◌++◌, length}
-use Rattle.std.specs.List.{range_with_len, remove, Contains}
-use Rattle.std.specs.List.Sorted.{IsPermutation}
+use Rattle.std.proofs.Common.{ℕ, zero, suc, ◌<◌, ◌≡◌, sym, subst, arith, List, [], ◌∷◌, ◌++◌}
+use Rattle.std.proofs.Common.{length}
 use Rattle.std.proofs.lemmas.List.Sorted.{IsPermutation-refl, IsPermutation-sym}
 use Rattle.std.proofs.lemmas.List.Sorted.{IsPermutation-trans, IsPermutation-cons}
 use Rattle.std.proofs.lemmas.List.Sorted.{IsPermutation-to_front, IsPermutation-remove}
 use Rattle.std.proofs.lemmas.List.Sorted.{length_permutation, Contains-permutation}
-use Rattle.aeth_base.proofs.Members.{Contains-others}
-use Rattle.aeth_base.proofs.Ranges.{range_with_len-more}
+use Rattle.std.specs.List.{range_with_len, remove, Contains, Sorted.IsPermutation}
+use Rattle.aeth_base.proofs.{Members.Contains-others, Ranges.range_with_len-more}
 
 -- The last number in front of a permutation of the others.
 IsPermutation-suc : (n : ℕ) (others numbers : List ℕ) → IsPermutation (range_with_len 0 n) others

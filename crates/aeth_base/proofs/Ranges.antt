@@ -1,10 +1,10 @@
 -- Laws of the numbers from a first one on.
-use Rattle.std.proofs.Common.{◌≡◌, ◌<◌, ◌≤◌, ◌+◌, ◌-◌, ◌++◌, ◌∙◌, ℕ, zero, suc, [], ◌∷◌, Some, refl, ap}
-use Rattle.std.proofs.Common.{arith, map, slice_get, sym}
-use Rattle.std.specs.List.{range_with_len, All, Contains}
+use Rattle.std.proofs.Common.{◌≡◌, ◌<◌, ◌≤◌, ◌+◌, ◌-◌, ◌++◌, ◌∙◌, ℕ, zero, suc, [], ◌∷◌, Some, refl}
+use Rattle.std.proofs.Common.{ap, arith, map, slice_get, sym}
 use Rattle.std.proofs.lemmas.List.FromFn.{length-range_with_len, get_or-range_with_len}
 use Rattle.std.proofs.lemmas.List.FromFn.{length-map-range_with_len, get_or-map-range_with_len}
 use Rattle.std.proofs.lemmas.Option.{same_Some, slice_get-get_or, slice_get_within}
+use Rattle.std.specs.List.{range_with_len, All, Contains}
 
 -- One more number is the next one behind those before.
 pub range_with_len-more : (start size last : ℕ) → start + size ≡ last

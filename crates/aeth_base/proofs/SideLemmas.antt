@@ -2,8 +2,7 @@
 use Rattle.std.proofs.Common.{◌∷◌, ◌≡◌, Contains, [], refl, true}
 use Rattle.std.proofs.lemmas.Bool.{false≢true}
 use Rattle.aeth_base.specs.Sides.{channels_with, same_side}
-use Rattle.aeth_base.specs.declared.ids.Side.{Side}
-use Rattle.aeth_base.specs.declared.ids.Side.TheVariants.{Back, Fwd}
+use Rattle.aeth_base.specs.declared.ids.Side.{Side, TheVariants.Back, TheVariants.Fwd}
 use Rattle.aeth_base.specs.declared.ids.Channel.{Channel}
 use Rattle.aeth_base.proofs.Members.{Contains-here, Contains-there}
 

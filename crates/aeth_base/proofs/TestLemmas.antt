@@ -1,6 +1,6 @@
 -- Laws of tests and of what they tell: of truth values, of options, and of an order turned round.
 use Rattle.std.proofs.Common.{◌≡◌, ◌≢◌, Bool, true, false, IsTrue, Option, Some, None, refl, rules}
-use Rattle.std.specs.Prelude.{is_some}
+use Rattle.std.proofs.Common.{is_some}
 use Rattle.std.specs.Ordering.{ordering_reverse, ordering_then}
 use Rattle.std.specs.declared.cmp.Ordering.{Ordering}
 use Rattle.std.specs.declared.cmp.Ordering.TheVariants.{Equal, Greater, Less}

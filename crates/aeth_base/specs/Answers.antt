@@ -1,6 +1,6 @@
 -- What a call answers where its definition is a value or a fault.
 -- This project's own.
-use Rattle.std.specs.Prelude.{◌≡◌, ◌⊎◌, Result, Ok, Err}
+use Rattle.std.proofs.Common.{◌≡◌, ◌⊎◌, Result, Ok, Err}
 
 -- The call gives what the definition gives, or memory ran out.
 -- The value is compared as the view shows it.

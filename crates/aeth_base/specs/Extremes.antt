@@ -1,5 +1,5 @@
 -- The least and the greatest among the numbers below a bound.
-use Rattle.std.specs.Prelude.{ℕ, max, Bool, if◌then◌else◌, zero, suc}
+use Rattle.std.proofs.Common.{ℕ, max, Bool, if◌then◌else◌, zero, suc}
 
 -- The least number below the bound that passes the test; the bound itself where none does.
 abbrev pub least_below : (ℕ → Bool) → ℕ → ℕ

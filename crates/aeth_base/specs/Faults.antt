@@ -1,8 +1,7 @@
 -- The rules that a file breaks, and what a reader of files answers.
 -- This project's own.
-use Rattle.std.specs.Prelude.{ℕ, ◌≡◌, List, Option, Result, Ok, Err, IfSome}
-use Rattle.aeth_base.specs.declared.shown.Broken.{Broken}
-use Rattle.aeth_base.specs.declared.shown.Shown.{Shown}
+use Rattle.std.proofs.Common.{ℕ, ◌≡◌, List, Option, Result, Ok, Err, IfSome}
+use Rattle.aeth_base.specs.declared.shown.{Broken.Broken, Shown.Shown}
 
 -- The first rule that a file breaks: its number and its name among the rules of such files, the
 -- first place of its walk where it is broken, and the value there.

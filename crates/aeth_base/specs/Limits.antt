@@ -1,7 +1,7 @@
 -- The numbers of the rules that several crates share: what a flit carries, how long names, paths
 -- and slot tables are, how long links delay, and how far runs go.
 -- This project's own.
-use Rattle.std.specs.Prelude.{ℕ}
+use Rattle.std.proofs.Common.{ℕ}
 
 -- A name has at most so many bytes.
 abbrev pub max_name_bytes : ℕ

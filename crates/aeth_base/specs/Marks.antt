@@ -1,8 +1,7 @@
 -- Which of some numbers are marked, as a list of masks of 64 numbers each.
 -- This project's own.
-use Rattle.std.specs.Prelude.{◌*◌, ◌/◌, ◌%◌, ◌-◌, ◌==◌, ℕ, Bool, List, filter, length, slice_index}
-use Rattle.std.specs.Int.{bit_at}
-use Rattle.std.specs.List.{range_with_len}
+use Rattle.std.proofs.Common.{◌*◌, ◌/◌, ◌%◌, ◌-◌, ◌==◌, ℕ, Bool, List, filter, length, slice_index}
+use Rattle.std.specs.{Int.bit_at, List.range_with_len}
 
 -- The numbers of a mask.
 abbrev pub numbers_of_mask : ℕ

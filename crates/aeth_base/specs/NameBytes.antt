@@ -1,10 +1,8 @@
 -- How a name lies in memory: its bytes, and zeros behind them.
-use Rattle.std.specs.Prelude.{◌≡◌, ◌≤◌, ◌-◌, ◌++◌, ℕ, List, true, length, take, drop, replicate}
-use Rattle.std.proofs.Common.{arith}
-use Rattle.std.proofs.lemmas.List.{length-take, take-append-drop}
-use Rattle.aeth_base.specs.declared.name.Name.TheInside.{Inside}
-use Rattle.aeth_base.specs.Limits.{max_name_bytes}
-use Rattle.aeth_base.specs.Name.{is_name}
+use Rattle.std.proofs.Common.{◌≡◌, ◌≤◌, ◌-◌, ◌++◌, ℕ, List, true, length, take, drop, replicate}
+use Rattle.std.proofs.Common.{arith, length-take, take-append-drop}
+use Rattle.aeth_base.specs.{declared.name.Name.TheInside.Inside, Limits.max_name_bytes}
+use Rattle.aeth_base.specs.{Name.is_name}
 
 -- A name of some length, with zeros behind it.
 pub record IsPadded (bytes : List ℕ) (len : ℕ) : Type 0 where

@@ -1,11 +1,8 @@
 -- The number that a text is the canonical decimal of.
 -- This project's own; the decimal text of a number is std's.
-use Rattle.std.specs.Prelude.{◌≡◌, ◌<◌, length, get_or}
-use Rattle.std.specs.Prelude.{ℕ, ◌+◌, ◌*◌, ◌^◌, ◌&&◌, nat_lt, List, Option, Some, None, if◌then◌else◌}
-use Rattle.std.specs.Prelude.{decimal}
-use Rattle.std.specs.Char.{digit_value}
-use Rattle.std.specs.Str.{bytes_eq}
-use Rattle.std.specs.Str.Parse.{digits_value}
+use Rattle.std.proofs.Common.{◌≡◌, ◌<◌, length, get_or, ℕ, ◌+◌, ◌*◌, ◌^◌, ◌&&◌, nat_lt, List}
+use Rattle.std.proofs.Common.{Option, Some, None, if◌then◌else◌, decimal}
+use Rattle.std.specs.{Char.digit_value, Str.bytes_eq, Str.Parse.digits_value}
 
 -- A text that has a first byte, and a `0` as the first only where it has no other.
 pub record IsLed (text : List ℕ) : Type 0 where

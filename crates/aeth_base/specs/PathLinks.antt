@@ -1,9 +1,7 @@
 -- How a path lies in memory: its links, and link 0 behind them.
-use Rattle.std.specs.Prelude.{◌≡◌, ◌≤◌, ◌-◌, ◌++◌, ℕ, List, length, take, drop, replicate}
-use Rattle.std.proofs.Common.{arith}
-use Rattle.std.proofs.lemmas.List.{length-take, take-append-drop}
-use Rattle.aeth_base.specs.declared.ids.LinkId.{LinkId}
-use Rattle.aeth_base.specs.declared.path.Path.TheInside.{Inside}
+use Rattle.std.proofs.Common.{◌≡◌, ◌≤◌, ◌-◌, ◌++◌, ℕ, List, length, take, drop, replicate, arith}
+use Rattle.std.proofs.Common.{length-take, take-append-drop}
+use Rattle.aeth_base.specs.declared.{ids.LinkId.LinkId, path.Path.TheInside.Inside}
 use Rattle.aeth_base.specs.Limits.{max_path_links}
 
 -- What stands behind the links of a path.

@@ -3,10 +3,9 @@
 --   same_side, other_side      whether two sides are one; the opposite side
 --   channels_with      the channels of a connection
 -- A connection with a channel each way: after Æthereal (2005).
-use Rattle.std.specs.Prelude.{ℕ, Bool, true, false, List, [], ◌∷◌}
+use Rattle.std.proofs.Common.{ℕ, Bool, true, false, List, [], ◌∷◌}
 use Rattle.aeth_base.specs.declared.ids.Channel.{Channel}
-use Rattle.aeth_base.specs.declared.ids.Side.{Side}
-use Rattle.aeth_base.specs.declared.ids.Side.TheVariants.{Back, Fwd}
+use Rattle.aeth_base.specs.declared.ids.Side.{Side, TheVariants.Back, TheVariants.Fwd}
 
 -- Whether two sides are one.
 abbrev pub same_side : Side → Side → Bool

@@ -1,39 +1,28 @@
 -- Laws of books: a first one, one with a grant more, and one with a grant less.
-use Rattle.std.proofs.Common.{◌≡◌, ◌∙◌, ◌<◌, ◌+◌, ◌*◌, ◌%◌, ◌++◌, ◌&&◌, ◌||◌, ℕ}
-use Rattle.std.proofs.Common.{Bool, true, false, cond, eqb, List, [], ◌∷◌, length, take}
-use Rattle.std.proofs.Common.{All, Contains, Some, get_or, refl, sym}
-use Rattle.std.proofs.Common.{ap, subst, inl, inr, arith}
+use Rattle.std.proofs.Common.{◌≡◌, ◌∙◌, ◌<◌, ◌+◌, ◌*◌, ◌%◌, ◌++◌, ◌&&◌, ◌||◌, ℕ, Bool, true, false}
+use Rattle.std.proofs.Common.{cond, eqb, List, [], ◌∷◌, length, take, All, Contains, Some, get_or}
+use Rattle.std.proofs.Common.{refl, sym, ap, subst, inl, inr, arith, eqb-true, lt-ltb}
+use Rattle.std.proofs.Math.{Bool.or-false, Nat.mul-le-mul_right, Seq.get_or-append_seam}
+use Rattle.std.proofs.lemmas.{Bool.and_from, Bool.and_parts, Bool.both_ways, Bool.cases_lt}
+use Rattle.std.proofs.lemmas.{Bool.false≢true, Bool.not-true, Bool.or_cases}
+use Rattle.std.proofs.lemmas.{List.get_or_append_left, List.get_or_default, List.length_push}
+use Rattle.std.proofs.lemmas.{List.Elements.All-push, List.Folds.list_any-append}
+use Rattle.std.proofs.lemmas.{List.Quantifiers.all_pairs_push, Option.slice_get-get_or}
 use Rattle.std.specs.List.{range_with_len}
-use Rattle.std.proofs.Math.Bool.{or-false}
-use Rattle.std.proofs.lemmas.Bool.{and_from, and_parts, both_ways, cases_lt, eqb-true, false≢true}
-use Rattle.std.proofs.lemmas.Bool.{lt-ltb, not-true, or_cases}
-use Rattle.std.proofs.lemmas.List.{get_or_append_left, get_or_default, length_push}
-use Rattle.std.proofs.lemmas.List.Elements.{All-push}
-use Rattle.std.proofs.lemmas.List.Folds.{list_any-append}
-use Rattle.std.proofs.lemmas.List.Quantifiers.{all_pairs_push}
-use Rattle.std.proofs.Math.Nat.{mul-le-mul_right}
-use Rattle.std.proofs.lemmas.Option.{slice_get-get_or}
-use Rattle.std.proofs.Math.Seq.{get_or-append_seam}
-use Rattle.aeth_base.specs.declared.ids.LinkId.{LinkId}
-use Rattle.aeth_base.specs.declared.ids.Unit.{Unit as GroupUnit}
-use Rattle.aeth_chip.specs.declared.node.Link.{Link}
-use Rattle.aeth_chip.specs.Paths.{delay_of}
-use Rattle.aeth_slots.specs.SlotSet.{Slots}
-use Rattle.aeth_slots.proofs.TestLemmas.{Contains-where}
-use Rattle.aeth_group.specs.declared.grant.Grant.{Grant}
-use Rattle.aeth_group.specs.Members.{GroupsData, has_unit}
-use Rattle.aeth_group.proofs.Ranges.{any_from_passer}
-use Rattle.aeth_group.proofs.RowLemmas.{use_is_there}
-use Rattle.aeth_group.specs.Occupation.{enters, holds_in}
+use Rattle.aeth_base.specs.declared.ids.{LinkId.LinkId, Unit.Unit as GroupUnit}
+use Rattle.aeth_base.proofs.Filters.{filter-none}
+use Rattle.aeth_chip.specs.{declared.node.Link.Link, Paths.delay_of}
+use Rattle.aeth_slots.{specs.SlotSet.Slots, proofs.TestLemmas.Contains-where}
+use Rattle.aeth_group.specs.{declared.grant.Grant.Grant, Members.GroupsData, Members.has_unit}
+use Rattle.aeth_group.specs.{Occupation.enters, Occupation.holds_in, Tables.Changes, Tables.IsTable}
+use Rattle.aeth_group.specs.{Tables.hits_uses}
+use Rattle.aeth_group.proofs.{Ranges.any_from_passer, RowLemmas.use_is_there}
+use Rattle.aeth_group.proofs.{OccupationLemmas.is_at, TableLemmas.either, TableLemmas.table-same}
+use Rattle.aeth_group.proofs.{ListLemmas.any_from_passes, ListLemmas.passes_from_any}
 use Rattle.aeth_book.specs.Book.{AreApart, BookData, IsBook, IsFit, with_grant}
 use Rattle.aeth_book.specs.Free.{free_starts, is_occupied, is_open, is_taken}
-use Rattle.aeth_group.specs.Tables.{Changes, IsTable, hits_uses}
-use Rattle.aeth_base.proofs.Filters.{filter-none}
 use Rattle.aeth_book.specs.Masks.{IsKept}
-use Rattle.aeth_group.proofs.OccupationLemmas.{is_at}
 use Rattle.aeth_book.proofs.UseLemmas.{taken_from_blocked}
-use Rattle.aeth_group.proofs.TableLemmas.{either, table-same}
-use Rattle.aeth_group.proofs.ListLemmas.{any_from_passes, passes_from_any}
 
 -- A row that begins within a table is one of its rows.
 row_below : (u l links uses : ℕ) → u * links + l < uses * links → u < uses

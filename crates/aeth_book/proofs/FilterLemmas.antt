@@ -1,11 +1,9 @@
 -- Laws of filters and of ranges.
-use Rattle.std.proofs.Common.{◌≡◌, ◌∙◌, ◌<◌, ◌+◌, ◌++◌, ◌&&◌, ◌||◌, ℕ}
-use Rattle.std.proofs.Common.{Bool, true, false, cond, List, [], ◌∷◌, length}
-use Rattle.std.proofs.Common.{Contains, get_or, refl, ap, filter}
-use Rattle.std.proofs.Common.{take}
+use Rattle.std.proofs.Common.{◌≡◌, ◌∙◌, ◌<◌, ◌+◌, ◌++◌, ◌&&◌, ◌||◌, ℕ, Bool, true, false, cond}
+use Rattle.std.proofs.Common.{List, [], ◌∷◌, length, Contains, get_or, refl, ap, filter, take}
+use Rattle.std.proofs.Common.{append-nil}
+use Rattle.std.proofs.lemmas.List.{take_more, Elements.filter-append}
 use Rattle.std.specs.List.{list_any}
-use Rattle.std.proofs.lemmas.List.{append-nil, take_more}
-use Rattle.std.proofs.lemmas.List.Elements.{filter-append}
 use Rattle.aeth_base.proofs.Members.{Contains-here, Contains-there}
 
 -- What one filter leaves, another filters.

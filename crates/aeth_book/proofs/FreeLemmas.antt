@@ -1,25 +1,20 @@
 -- Laws of free starts: a path with one more link, and what a set has without taken slots.
-use Rattle.std.proofs.Common.{◌≡◌, ◌∙◌, ◌<◌, ◌≤◌, ◌+◌, ◌-◌, ◌*◌, ◌/◌, ◌%◌, ◌++◌, ◌&&◌, ℕ}
-use Rattle.std.proofs.Common.{Bool, true, false, not, eqb, List, [], ◌∷◌}
-use Rattle.std.proofs.Common.{refl, sym, ap, arith, filter}
-use Rattle.std.specs.List.{range_with_len}
+use Rattle.std.proofs.Common.{◌≡◌, ◌∙◌, ◌<◌, ◌≤◌, ◌+◌, ◌-◌, ◌*◌, ◌/◌, ◌%◌, ◌++◌, ◌&&◌, ℕ, Bool}
+use Rattle.std.proofs.Common.{true, false, not, eqb, List, [], ◌∷◌, refl, sym, ap, arith, filter}
+use Rattle.std.proofs.Common.{eq-eqb, eqb-true}
 use Rattle.std.proofs.Math.Nat.{add-mod_right, add-mul-mod_self_left, div-add-mod, mod-add-mod}
 use Rattle.std.proofs.Math.Nat.{mod-eq_of_lt, mod-lt}
-use Rattle.std.proofs.lemmas.Bool.{eq-eqb, eqb-true}
 use Rattle.std.proofs.lemmas.List.Sums.{sum_by-cons}
-use Rattle.aeth_base.specs.declared.ids.LinkId.{LinkId}
-use Rattle.aeth_base.specs.declared.ids.Unit.{Unit as GroupUnit}
+use Rattle.std.specs.List.{range_with_len}
+use Rattle.aeth_base.specs.declared.ids.{LinkId.LinkId, Unit.Unit as GroupUnit}
 use Rattle.aeth_chip.specs.Paths.{delay_of, path_delay}
-use Rattle.aeth_slots.specs.SlotSet.{Slots, IsSlotSet, has_slot, rotated}
-use Rattle.aeth_slots.specs.SlotSet.{slots_where, without}
-use Rattle.aeth_slots.proofs.Ascending.{Ascends-bounds}
-use Rattle.aeth_slots.proofs.TestLemmas.{Contains-where}
+use Rattle.aeth_slots.specs.SlotSet.{Slots, IsSlotSet, has_slot, rotated, slots_where, without}
+use Rattle.aeth_slots.proofs.{Ascending.Ascends-bounds, TestLemmas.Contains-where}
 use Rattle.aeth_group.proofs.OccupationLemmas.{is_at}
 use Rattle.aeth_group.proofs.ListLemmas.{any_from_passes, passes_from_any, same_tests}
-use Rattle.aeth_book.specs.Book.{BookData}
-use Rattle.aeth_book.specs.Free.{is_open, is_taken, narrowed}
-use Rattle.aeth_book.specs.Free.{taken_slots}
 use Rattle.aeth_group.proofs.TableLemmas.{has_slot-rotated}
+use Rattle.aeth_book.specs.Book.{BookData}
+use Rattle.aeth_book.specs.Free.{is_open, is_taken, narrowed, taken_slots}
 use Rattle.aeth_book.proofs.FilterLemmas.{filter_same, filter_twice}
 
 and-assoc : (a b c : Bool) → (a && (b && c)) ≡ ((a && b) && c)

@@ -1,20 +1,17 @@
 -- Laws of free starts: what the test of a path says, place by place.
-use Rattle.std.proofs.Common.{◌≡◌, ◌+◌, ◌%◌, ◌&&◌, ◌↔◌, ℕ, zero, suc, true, false}
-use Rattle.std.proofs.Common.{List, [], ◌∷◌, Contains, Some, slice_get, refl, arith}
+use Rattle.std.proofs.Common.{◌≡◌, ◌+◌, ◌%◌, ◌&&◌, ◌↔◌, ℕ, zero, suc, true, false, List, [], ◌∷◌}
+use Rattle.std.proofs.Common.{Contains, Some, slice_get, refl, arith}
 use Rattle.std.proofs.lemmas.Bool.{and_from, and_parts, both_ways, false_from_ne_true, not-true}
 use Rattle.std.proofs.lemmas.Bool.{not_from_false}
 use Rattle.std.proofs.lemmas.Option.{none-some, same_Some}
-use Rattle.aeth_base.specs.declared.ids.LinkId.{LinkId}
-use Rattle.aeth_base.specs.declared.ids.Unit.{Unit as GroupUnit}
+use Rattle.aeth_base.specs.declared.ids.{LinkId.LinkId, Unit.Unit as GroupUnit}
 use Rattle.aeth_base.proofs.TestLemmas.{IsTrue_from_true, true_from_IsTrue}
-use Rattle.aeth_chip.specs.Paths.{delay_of, offset}
-use Rattle.aeth_chip.proofs.OffsetLemmas.{offset-behind}
+use Rattle.aeth_chip.{specs.Paths.delay_of, specs.Paths.offset, proofs.OffsetLemmas.offset-behind}
 use Rattle.aeth_slots.proofs.TestLemmas.{Contains-where}
 use Rattle.aeth_book.specs.Book.{BookData}
-use Rattle.aeth_group.specs.Occupation.{occupies}
 use Rattle.aeth_book.specs.Free.{IsFreeStart, free_starts, is_open, is_rival, is_taken}
-use Rattle.aeth_group.proofs.OccupationLemmas.{occupies-Decides}
-use Rattle.aeth_group.proofs.ListLemmas.{any_from_passes, passes_from_any}
+use Rattle.aeth_group.{specs.Occupation.occupies, proofs.OccupationLemmas.occupies-Decides}
+use Rattle.aeth_group.{proofs.ListLemmas.any_from_passes, proofs.ListLemmas.passes_from_any}
 
 -- No rival occupies the link at any place, in the slot in which a flit enters it that starts in a
 -- slot and so many cycles later enters the path.

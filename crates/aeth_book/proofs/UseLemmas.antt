@@ -1,37 +1,27 @@
 -- Laws of use cases: the slots that are taken as those that are occupied in some use case of the
 -- unit, and what a row of use cases occupies and uses.
-use Rattle.std.proofs.Common.{◌≡◌, ◌∙◌, ◌<◌, ◌≤◌, ◌+◌, ◌++◌, ◌&&◌, ◌||◌, ℕ}
-use Rattle.std.proofs.Common.{Bool, true, false, eqb, max, List, [], ◌∷◌, length, map}
-use Rattle.std.proofs.Common.{Contains, Some, slice_get, get_or, refl, sym, ap, arith, filter}
-use Rattle.std.proofs.Common.{take}
-use Rattle.std.specs.List.{list_any, range_with_len}
+use Rattle.std.proofs.Common.{◌≡◌, ◌∙◌, ◌<◌, ◌≤◌, ◌+◌, ◌++◌, ◌&&◌, ◌||◌, ℕ, Bool, true, false, eqb}
+use Rattle.std.proofs.Common.{max, List, [], ◌∷◌, length, map, Contains, Some, slice_get, get_or}
+use Rattle.std.proofs.Common.{refl, sym, ap, arith, filter, take, eq-eqb, eqb-true}
 use Rattle.std.proofs.Math.Bool.{or-false}
-use Rattle.std.proofs.lemmas.Bool.{and_from, and_parts, eq-eqb, eqb-true}
-use Rattle.std.proofs.lemmas.List.{map-append, take_more}
-use Rattle.std.proofs.lemmas.List.Folds.{list_any-append}
-use Rattle.std.proofs.lemmas.Option.{same_Some, slice_get-get_or}
-use Rattle.std.proofs.lemmas.List.FromFn.{length-range_with_len}
-use Rattle.std.proofs.lemmas.List.Sums.{count_by-le-length, length-filter}
-use Rattle.aeth_base.specs.declared.ids.Unit.{Unit as GroupUnit}
-use Rattle.aeth_base.proofs.Filters.{filter-none}
+use Rattle.std.proofs.lemmas.{Bool.and_from, Bool.and_parts, List.map-append, List.take_more}
+use Rattle.std.proofs.lemmas.{List.Folds.list_any-append, Option.same_Some, Option.slice_get-get_or}
+use Rattle.std.proofs.lemmas.{List.FromFn.length-range_with_len, List.Sums.count_by-le-length}
+use Rattle.std.proofs.lemmas.{List.Sums.length-filter}
+use Rattle.std.specs.List.{list_any, range_with_len}
+use Rattle.aeth_base.{specs.declared.ids.Unit.Unit as GroupUnit, proofs.Filters.filter-none}
 use Rattle.aeth_app.specs.App.{is_marked}
-use Rattle.aeth_slots.specs.SlotSet.{Slots, greatest, has_slot, joined}
-use Rattle.aeth_slots.specs.SlotSet.{slots_where}
-use Rattle.aeth_slots.proofs.TestLemmas.{has_slot-where}
-use Rattle.aeth_slots.proofs.TestLemmas.{where-same}
-use Rattle.aeth_group.specs.declared.grant.Grant.{Grant}
-use Rattle.aeth_group.specs.Members.{GroupsData, UseGroupData, group_at, has_at}
-use Rattle.aeth_group.specs.Members.{has_unit}
-use Rattle.aeth_group.proofs.Ranges.{any_from_passer, passer_from_any}
-use Rattle.aeth_group.specs.Occupation.{holds_in, occupies}
-use Rattle.aeth_group.proofs.ListLemmas.{any_from_passes, passes_from_any, same_tests}
-use Rattle.aeth_book.specs.Book.{BookData}
-use Rattle.aeth_book.specs.Free.{is_occupied, is_rival, is_taken}
-use Rattle.aeth_book.specs.Free.{occupied_slots, taken_slots, used_slots, uses_with}
-use Rattle.aeth_group.specs.Rows.{uses_of}
+use Rattle.aeth_slots.specs.SlotSet.{Slots, greatest, has_slot, joined, slots_where}
+use Rattle.aeth_slots.proofs.TestLemmas.{has_slot-where, where-same}
 use Rattle.aeth_slots.proofs.SlotSetLemmas.{greatest-push}
-use Rattle.aeth_book.proofs.FilterLemmas.{any-filter, filter-push, filter-same-more}
-use Rattle.aeth_book.proofs.FilterLemmas.{filter_twice}
+use Rattle.aeth_group.specs.{declared.grant.Grant.Grant, Members.GroupsData, Members.UseGroupData}
+use Rattle.aeth_group.specs.{Members.group_at, Members.has_at, Members.has_unit}
+use Rattle.aeth_group.specs.{Occupation.holds_in, Occupation.occupies, Rows.uses_of}
+use Rattle.aeth_group.proofs.Ranges.{any_from_passer, passer_from_any}
+use Rattle.aeth_group.proofs.ListLemmas.{any_from_passes, passes_from_any, same_tests}
+use Rattle.aeth_book.specs.{Book.BookData, Free.is_occupied, Free.is_rival, Free.is_taken}
+use Rattle.aeth_book.specs.{Free.occupied_slots, Free.taken_slots, Free.used_slots, Free.uses_with}
+use Rattle.aeth_book.proofs.FilterLemmas.{any-filter, filter-push, filter-same-more, filter_twice}
 
 -- Whether a slot of a link is occupied in a use case that has the unit.
 abbrev pub is_blocked : BookData → GroupUnit → ℕ → ℕ → Bool

@@ -1,15 +1,10 @@
 -- What a book of grants is seen as, and what holds of every book. This project's own.
-use Rattle.std.specs.Prelude.{◌≡◌, ◌≤◌, ◌<◌, ℕ, ◌∷◌, [], ◌++◌, true, List, All, AllPairs, Some}
-use Rattle.std.specs.Prelude.{length, slice_get}
+use Rattle.std.proofs.Common.{◌≡◌, ◌≤◌, ◌<◌, ℕ, ◌∷◌, [], ◌++◌, true, List, All, AllPairs, Some}
+use Rattle.std.proofs.Common.{length, slice_get}
 use Rattle.aeth_app.specs.Limits.{max_uses}
-use Rattle.aeth_chip.specs.Chip.{ChipData}
-use Rattle.aeth_chip.specs.Limits.{max_links}
-use Rattle.aeth_chip.specs.declared.node.Link.{Link}
-use Rattle.aeth_base.specs.Limits.{max_link_delay}
-use Rattle.aeth_base.specs.Limits.{max_slots}
-use Rattle.aeth_group.specs.declared.grant.Grant.{Grant}
-use Rattle.aeth_group.specs.Members.{GroupsData}
-use Rattle.aeth_group.specs.Occupation.{holds_in}
+use Rattle.aeth_chip.specs.{Chip.ChipData, Limits.max_links, declared.node.Link.Link}
+use Rattle.aeth_base.specs.Limits.{max_link_delay, max_slots}
+use Rattle.aeth_group.specs.{declared.grant.Grant.Grant, Members.GroupsData, Occupation.holds_in}
 
 -- A book: the size of the slot tables, the links of the chip, the groups of the application, and
 -- the grants in the order in which they were made.

@@ -7,17 +7,16 @@
 --   narrowed      the starts of a set at which one link meets none of them
 --   is_occupied, occupied_slots      the slots of a link that are occupied in a use case
 --   uses_with, used_slots      the use cases that have a unit, and how many slots they use at most
-use Rattle.std.specs.Prelude.{ℕ, ◌+◌, ◌%◌, ◌==◌, ◌&&◌, Bool, true, not, List, [], ◌∷◌}
-use Rattle.std.specs.Prelude.{◌≡◌, ◌<◌, length, map, filter, slice_get, Contains, IsTrue, Some}
+use Rattle.std.proofs.Common.{ℕ, ◌+◌, ◌%◌, ◌==◌, ◌&&◌, Bool, true, not, List, [], ◌∷◌, ◌≡◌, ◌<◌}
+use Rattle.std.proofs.Common.{length, map, filter, slice_get, Contains, IsTrue, Some}
 use Rattle.std.specs.List.{list_any, range_with_len}
-use Rattle.aeth_base.specs.declared.ids.LinkId.{LinkId}
-use Rattle.aeth_base.specs.declared.ids.Unit.{Unit as GroupUnit}
+use Rattle.aeth_base.specs.declared.ids.{LinkId.LinkId, Unit.Unit as GroupUnit}
 use Rattle.aeth_chip.specs.Paths.{delay_of, offset}
 use Rattle.aeth_slots.specs.SlotSet.{Slots, greatest, slots_where}
 use Rattle.aeth_group.specs.declared.grant.Grant.{Grant}
 use Rattle.aeth_group.specs.Members.{GroupsData, are_together, has_unit}
-use Rattle.aeth_book.specs.Book.{BookData}
 use Rattle.aeth_group.specs.Occupation.{Occupies, holds_in, occupies}
+use Rattle.aeth_book.specs.Book.{BookData}
 
 -- Whether a grant is of the unit's group, and its connection is together with the unit's.
 abbrev pub is_rival : GroupsData → GroupUnit → Grant → Bool

@@ -1,9 +1,8 @@
 -- The masks that a book keeps beside its grants. This project's own.
-use Rattle.std.specs.Prelude.{◌≡◌, ◌*◌, List, length}
+use Rattle.std.proofs.Common.{◌≡◌, ◌*◌, List, length}
 use Rattle.aeth_slots.specs.SlotSet.{Slots}
 use Rattle.aeth_group.specs.Tables.{IsTable}
-use Rattle.aeth_book.specs.Book.{BookData, IsBook}
-use Rattle.aeth_book.specs.Free.{is_occupied}
+use Rattle.aeth_book.specs.{Book.BookData, Book.IsBook, Free.is_occupied}
 
 -- The masks that a book keeps.
 pub record IsKept (book : BookData) (masks : List Slots) : Type 0 where

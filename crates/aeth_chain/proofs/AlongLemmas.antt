@@ -1,18 +1,14 @@
 -- A run of items with their shapes, from one to those behind it.
 use Rattle.std.proofs.Common.{ℕ, ◌≤◌, ◌≡◌, List, [], ◌∷◌, ◌∙◌, filter, length, map, get_or, ap}
-use Rattle.std.proofs.Common.{refl, sym, arith}
-use Rattle.std.specs.Prelude.{All, nat_lt}
+use Rattle.std.proofs.Common.{refl, sym, arith, All, nat_lt}
 use Rattle.aeth_server.specs.declared.shape.ChannelShape.{ChannelShape}
 use Rattle.aeth_trace.specs.Words.{words_on}
-use Rattle.aeth_trace.specs.declared.receivers.PullRow.{PullRow}
-use Rattle.aeth_trace.specs.declared.words.WordRow.{WordRow}
-use Rattle.aeth_chain.specs.Chain.{Leg, leg_of, legs_of}
-use Rattle.aeth_chain.specs.ChainBounds.{HasLandedBy, IsDueInChain}
-use Rattle.aeth_chain.specs.ChainRun.{first_offers, landings_along, offer_of, passed_on, runs_along}
-use Rattle.aeth_chain.specs.ChainRun.{servers_along}
-use Rattle.aeth_chain.specs.Lanes.{AreOffers}
-use Rattle.aeth_chain.specs.declared.item.ChainItem.{ChainItem}
-use Rattle.aeth_chain.specs.declared.passing.Offer.{Offer}
+use Rattle.aeth_trace.specs.declared.{receivers.PullRow.PullRow, words.WordRow.WordRow}
+use Rattle.aeth_chain.specs.{Chain.Leg, Chain.leg_of, Chain.legs_of, ChainBounds.HasLandedBy}
+use Rattle.aeth_chain.specs.{ChainBounds.IsDueInChain, ChainRun.first_offers}
+use Rattle.aeth_chain.specs.{ChainRun.landings_along, ChainRun.offer_of, ChainRun.passed_on}
+use Rattle.aeth_chain.specs.{ChainRun.runs_along, ChainRun.servers_along, Lanes.AreOffers}
+use Rattle.aeth_chain.specs.{declared.item.ChainItem.ChainItem, declared.passing.Offer.Offer}
 use Rattle.aeth_chain.proofs.ChainLemmas.{IsLegOf, chain-lands}
 use Rattle.aeth_chain.proofs.ShapeLemmas.{behind, behind-is}
 

@@ -1,24 +1,20 @@
 -- The bound of a whole chain.
 use Rattle.std.proofs.Common.{ℕ, ◌+◌, ◌-◌, ◌*◌, ◌<◌, ◌≤◌, ◌≡◌, ◌∙◌, suc, List, [], ◌∷◌, Some}
-use Rattle.std.proofs.Common.{length, map, ap, refl, arith}
-use Rattle.std.specs.Prelude.{All}
-use Rattle.std.specs.Int.{div_ceil}
-use Rattle.std.specs.List.{range_with_len}
+use Rattle.std.proofs.Common.{length, map, ap, refl, arith, All}
 use Rattle.std.proofs.lemmas.List.Elements.{All-head, All-tail}
 use Rattle.std.proofs.lemmas.List.FromFn.{get_or-map-range_with_len, length-map-range_with_len}
 use Rattle.std.proofs.lemmas.Option.{slice_get-get_or}
-use Rattle.aeth_server.specs.FinishTimes.{finish_time}
-use Rattle.aeth_server.specs.Landing.{KeepsDelay, landing_cycle}
-use Rattle.aeth_server.specs.PrivateServer.{PrivateServer, landed}
-use Rattle.aeth_server.specs.Shape.{IsGranted, channel_latency}
-use Rattle.aeth_server.specs.WordCycles.{IsOpenFor}
+use Rattle.std.specs.{Int.div_ceil, List.range_with_len}
+use Rattle.aeth_server.specs.{FinishTimes.finish_time, Landing.KeepsDelay, Landing.landing_cycle}
+use Rattle.aeth_server.specs.{PrivateServer.PrivateServer, PrivateServer.landed, Shape.IsGranted}
+use Rattle.aeth_server.specs.{Shape.channel_latency, WordCycles.IsOpenFor}
 use Rattle.aeth_server.proofs.WordCycles.{landed-by, lands-more}
 use Rattle.aeth_trace.specs.declared.receivers.PullRow.{PullRow}
 use Rattle.aeth_report.specs.declared.log.Landing.{Landing}
 use Rattle.aeth_chain.specs.Chain.{Leg, chain_rate, latency_along, passing_latency}
 use Rattle.aeth_chain.specs.ChainBounds.{HasLandedBy, IsDueInChain}
-use Rattle.aeth_chain.specs.ChainRun.{cycles_of, landing_on, landings_along}
-use Rattle.aeth_chain.specs.ChainRun.{passed_on, runs_along, server_on, servers_along}
+use Rattle.aeth_chain.specs.ChainRun.{cycles_of, landing_on, landings_along, passed_on, runs_along}
+use Rattle.aeth_chain.specs.ChainRun.{server_on, servers_along}
 use Rattle.aeth_chain.specs.Lanes.{AreOffers}
 use Rattle.aeth_chain.specs.declared.passing.Offer.{Offer}
 use Rattle.aeth_chain.proofs.FinishLemmas.{finish-later, whole-cycle}

@@ -1,33 +1,26 @@
 -- A chain is a run of an accepted plan: the landings on its last channel are those of the log of the run
 -- that has its offers as words.
-use Rattle.std.proofs.Common.{◌≡◌, ◌∙◌, ◌≤◌, ℕ, suc, List, [], ◌∷◌, Some, length, map}
-use Rattle.std.proofs.Common.{slice_get, refl, sym, ap, arith}
-use Rattle.std.specs.Prelude.{All}
-use Rattle.std.specs.List.{range_with_len}
+use Rattle.std.proofs.Common.{◌≡◌, ◌∙◌, ◌≤◌, ℕ, suc, List, [], ◌∷◌, Some, length, map, slice_get}
+use Rattle.std.proofs.Common.{refl, sym, ap, arith, All}
 use Rattle.std.proofs.lemmas.List.Elements.{All-head, All-tail}
-use Rattle.aeth_base.specs.declared.ids.UseId.{UseId}
-use Rattle.aeth_base.specs.Limits.{max_cycles}
-use Rattle.aeth_server.specs.ChannelShape.{IsShapeInRange}
-use Rattle.aeth_server.specs.PrivateServer.{landed}
-use Rattle.aeth_server.specs.declared.shape.ChannelShape.{ChannelShape}
-use Rattle.aeth_trace.specs.declared.receivers.PullRow.{PullRow}
-use Rattle.aeth_trace.specs.declared.words.WordRow.{WordRow}
-use Rattle.aeth_report.specs.Flows.{Run}
-use Rattle.aeth_report.specs.RunLog.{log_of}
+use Rattle.std.specs.List.{range_with_len}
+use Rattle.aeth_base.specs.{declared.ids.UseId.UseId, Limits.max_cycles}
+use Rattle.aeth_server.specs.{ChannelShape.IsShapeInRange, PrivateServer.landed}
+use Rattle.aeth_server.specs.{declared.shape.ChannelShape.ChannelShape}
+use Rattle.aeth_trace.specs.declared.{receivers.PullRow.PullRow, words.WordRow.WordRow}
+use Rattle.aeth_report.specs.{Flows.Run, RunLog.log_of}
 use Rattle.aeth_accepted.specs.Inputs.{Inputs, run_of}
 use Rattle.aeth_chain.specs.Chain.{AreDistinct, IsChain, Leg, leg_of, legs_of}
 use Rattle.aeth_chain.specs.ChainInputs.{AreTabled, forwarding_inputs, landings_on, last_channel}
 use Rattle.aeth_chain.specs.ChainInputs.{told}
-use Rattle.aeth_chain.specs.ChainRun.{ChainData, chain_log, first_offers, landing_on, landings_along}
-use Rattle.aeth_chain.specs.ChainRun.{passed_on, runs_along, server_on}
+use Rattle.aeth_chain.specs.ChainRun.{ChainData, chain_log, first_offers, landing_on}
+use Rattle.aeth_chain.specs.ChainRun.{landings_along, passed_on, runs_along, server_on}
 use Rattle.aeth_chain.specs.Lanes.{AreOffers}
-use Rattle.aeth_chain.specs.declared.item.ChainItem.{ChainItem}
-use Rattle.aeth_chain.specs.declared.passing.Offer.{Offer}
-use Rattle.aeth_chain.proofs.ChannelLogs.{landings-of, session-rows, told-same}
-use Rattle.aeth_chain.proofs.LaneLemmas.{shape-paths}
-use Rattle.aeth_chain.proofs.LoggedLemmas.{item-in_use}
-use Rattle.aeth_chain.proofs.MergedLemmas.{words-merged}
-use Rattle.aeth_chain.proofs.OfferLemmas.{passed-offers}
+use Rattle.aeth_chain.specs.declared.{item.ChainItem.ChainItem, passing.Offer.Offer}
+use Rattle.aeth_chain.proofs.{ChannelLogs.landings-of, ChannelLogs.session-rows}
+use Rattle.aeth_chain.proofs.{ChannelLogs.told-same, LaneLemmas.shape-paths}
+use Rattle.aeth_chain.proofs.{LoggedLemmas.item-in_use, MergedLemmas.words-merged}
+use Rattle.aeth_chain.proofs.{OfferLemmas.passed-offers}
 
 module _ (pulls : List PullRow) (cycles : ℕ) (all : List Leg) (first : List Offer) where
   -- The last of some items, with what is offered on its channel, is the one whose landings are told.

@@ -1,42 +1,29 @@
 -- What the log of a run tells of a channel of a connection that is in use in one session throughout.
-use Rattle.std.proofs.Common.{◌≡◌, ◌∙◌, ◌<◌, ◌≤◌, ◌+◌, ℕ, zero, suc, true, List, []}
-use Rattle.std.proofs.Common.{◌∷◌, ◌++◌, cond, filter, flat_map, map, refl, sym, ap, inl}
-use Rattle.std.proofs.Common.{inr, arith}
-use Rattle.std.specs.Prelude.{◌==◌, All, None, nat_lt, slice_index}
+use Rattle.std.proofs.Common.{◌≡◌, ◌∙◌, ◌<◌, ◌≤◌, ◌+◌, ℕ, zero, suc, true, List, [], ◌∷◌, ◌++◌}
+use Rattle.std.proofs.Common.{cond, filter, flat_map, map, refl, sym, ap, inl, inr, arith, ◌==◌}
+use Rattle.std.proofs.Common.{All, None, nat_lt, slice_index, eq-eqb, le-leb, le-ltb, lt-ltb}
+use Rattle.std.proofs.Common.{ne_eqb, append-nil}
+use Rattle.std.proofs.lemmas.{Bool.cases_lt, Bool.cases_eq, List.Elements.All-head}
+use Rattle.std.proofs.lemmas.{List.Elements.All-tail, List.Elements.filter-append}
+use Rattle.std.proofs.lemmas.{Grind.flat_map-append, Simd.map-map}
 use Rattle.std.specs.List.{range_with_len}
-use Rattle.std.proofs.lemmas.Bool.{cases_lt, cases_eq, eq-eqb, le-leb, le-ltb, lt-ltb, ne_eqb}
-use Rattle.std.proofs.lemmas.List.{append-nil}
-use Rattle.std.proofs.lemmas.List.Elements.{All-head, All-tail, filter-append}
-use Rattle.std.proofs.lemmas.Grind.{flat_map-append}
-use Rattle.std.proofs.lemmas.Simd.{map-map}
-use Rattle.aeth_base.specs.declared.ids.Channel.{Channel}
-use Rattle.aeth_base.specs.declared.ids.Side.{Side}
-use Rattle.aeth_base.specs.declared.ids.Side.TheVariants.{Back, Fwd}
-use Rattle.aeth_base.specs.Sides.{channels_with}
-use Rattle.aeth_base.proofs.Filters.{filter-map}
-use Rattle.aeth_base.proofs.Ranges.{range_with_len-more}
+use Rattle.aeth_base.specs.{declared.ids.Channel.Channel, declared.ids.Side.Side}
+use Rattle.aeth_base.specs.{declared.ids.Side.TheVariants.Back, declared.ids.Side.TheVariants.Fwd}
+use Rattle.aeth_base.specs.{Sides.channels_with, Limits.max_path_delay}
+use Rattle.aeth_base.proofs.{Filters.filter-map, Ranges.range_with_len-more}
 use Rattle.aeth_group.specs.Members.{group_at, has_at}
-use Rattle.aeth_server.specs.Landing.{landing_cycle}
-use Rattle.aeth_server.specs.PrivateServer.{PrivateServer, landed}
-use Rattle.aeth_server.specs.Shape.{buffer_of}
-use Rattle.aeth_trace.specs.Channels.{is_channel}
-use Rattle.aeth_trace.specs.Receivers.{pull_at}
-use Rattle.aeth_trace.specs.Words.{words_on}
-use Rattle.aeth_trace.specs.declared.words.WordRow.{WordRow}
-use Rattle.aeth_report.specs.Channels.{channels_of}
-use Rattle.aeth_report.specs.Design.{shape_at}
-use Rattle.aeth_report.specs.Flows.{Run, flow_of, is_within, server_of, sessions_in}
-use Rattle.aeth_report.specs.Flows.{values_of as run_values}
-use Rattle.aeth_report.specs.Log.{ChannelData}
-use Rattle.aeth_report.specs.RunLog.{channel_log, counted_to, flow_log, landing_of, log_of}
-use Rattle.aeth_report.specs.declared.session.Session.{Session}
-use Rattle.aeth_report.specs.declared.log.Landing.{Landing}
-use Rattle.aeth_base.specs.Limits.{max_path_delay}
-use Rattle.aeth_chain.specs.Chain.{Leg}
-use Rattle.aeth_chain.specs.ChainInputs.{landings_on, row_of, told}
-use Rattle.aeth_chain.specs.ChainRun.{landing_on, server_on, values_of}
-use Rattle.aeth_chain.specs.Lanes.{AreOffers}
-use Rattle.aeth_chain.specs.declared.passing.Offer.{Offer}
+use Rattle.aeth_server.specs.{Landing.landing_cycle, PrivateServer.PrivateServer}
+use Rattle.aeth_server.specs.{PrivateServer.landed, Shape.buffer_of}
+use Rattle.aeth_trace.specs.{Channels.is_channel, Receivers.pull_at, Words.words_on}
+use Rattle.aeth_trace.specs.{declared.words.WordRow.WordRow}
+use Rattle.aeth_report.specs.{Channels.channels_of, Design.shape_at, Flows.Run, Flows.flow_of}
+use Rattle.aeth_report.specs.{Flows.is_within, Flows.server_of, Flows.sessions_in}
+use Rattle.aeth_report.specs.{Flows.values_of as run_values, Log.ChannelData, RunLog.channel_log}
+use Rattle.aeth_report.specs.{RunLog.counted_to, RunLog.flow_log, RunLog.landing_of, RunLog.log_of}
+use Rattle.aeth_report.specs.{declared.session.Session.Session, declared.log.Landing.Landing}
+use Rattle.aeth_chain.specs.{Chain.Leg, ChainInputs.landings_on, ChainInputs.row_of}
+use Rattle.aeth_chain.specs.{ChainInputs.told, ChainRun.landing_on, ChainRun.server_on}
+use Rattle.aeth_chain.specs.{ChainRun.values_of, Lanes.AreOffers, declared.passing.Offer.Offer}
 
 -- A channel of a connection.
 abbrev channel : ℕ → Side → Channel

@@ -1,31 +1,22 @@
 -- A word of a chain that is due has landed: with shapes that the tables of an accepted plan have.
-use Rattle.std.proofs.Common.{◌≡◌, ℕ, true, List, [], Contains, Some}
-use Rattle.std.proofs.Common.{slice_get, subst, sym, arith}
-use Rattle.std.specs.Prelude.{All, None}
+use Rattle.std.proofs.Common.{◌≡◌, ℕ, true, List, [], Contains, Some, slice_get, subst, sym, arith}
+use Rattle.std.proofs.Common.{All, None}
 use Rattle.std.proofs.lemmas.Option.{slice_get_within}
 use Rattle.aeth_accepted.specs.Inputs.{AreAccepted, Inputs, run_of}
-use Rattle.aeth_base.specs.declared.ids.Channel.{Channel}
-use Rattle.aeth_base.specs.declared.ids.Side.TheVariants.{Fwd}
-use Rattle.aeth_base.specs.declared.ids.UseId.{UseId}
-use Rattle.aeth_base.proofs.Lists.{item-at}
-use Rattle.aeth_base.proofs.Members.{Contains-here}
+use Rattle.aeth_base.specs.declared.ids.{Channel.Channel, Side.TheVariants.Fwd, UseId.UseId}
+use Rattle.aeth_base.proofs.{Lists.item-at, Members.Contains-here}
 use Rattle.aeth_group.specs.Members.{group_at, groups_of, has_at}
-use Rattle.aeth_report.specs.Flows.{server_of, sessions_in}
-use Rattle.aeth_report.specs.declared.session.Session.{Session}
-use Rattle.aeth_server.specs.ChannelShape.{shape_of}
-use Rattle.aeth_server.specs.Shape.{IsGranted}
-use Rattle.aeth_server.specs.declared.shape.ChannelShape.{ChannelShape}
+use Rattle.aeth_report.specs.{Flows.server_of, Flows.sessions_in, declared.session.Session.Session}
+use Rattle.aeth_server.specs.{ChannelShape.shape_of, Shape.IsGranted}
+use Rattle.aeth_server.specs.{declared.shape.ChannelShape.ChannelShape}
 use Rattle.aeth_tables.proofs.ListLaws.{all_from_places}
 use Rattle.aeth_trace.specs.Words.{AreWordsOf}
-use Rattle.aeth_chain.specs.Chain.{IsChain, legs_of, size_of}
-use Rattle.aeth_chain.specs.ChainBounds.{AreDueWordsLanded}
-use Rattle.aeth_chain.specs.ChainInputs.{AreTabled}
-use Rattle.aeth_chain.specs.Lanes.{AreOffers}
-use Rattle.aeth_chain.specs.declared.item.ChainItem.{ChainItem}
-use Rattle.aeth_chain.proofs.AlongLemmas.{first-is, legs-count, legs-lands}
-use Rattle.aeth_chain.proofs.FirstLemmas.{first-are}
-use Rattle.aeth_chain.proofs.LoggedLemmas.{bare, bare-accepted, item-in_use}
-use Rattle.aeth_chain.proofs.ShapeLemmas.{chain-legs}
+use Rattle.aeth_chain.specs.{Chain.IsChain, Chain.legs_of, Chain.size_of}
+use Rattle.aeth_chain.specs.{ChainBounds.AreDueWordsLanded, ChainInputs.AreTabled, Lanes.AreOffers}
+use Rattle.aeth_chain.specs.{declared.item.ChainItem.ChainItem}
+use Rattle.aeth_chain.proofs.{AlongLemmas.first-is, AlongLemmas.legs-count, AlongLemmas.legs-lands}
+use Rattle.aeth_chain.proofs.{FirstLemmas.first-are, LoggedLemmas.bare, LoggedLemmas.bare-accepted}
+use Rattle.aeth_chain.proofs.{LoggedLemmas.item-in_use, ShapeLemmas.chain-legs}
 
 -- What stands for an item where there is none.
 abbrev no_item : ChainItem

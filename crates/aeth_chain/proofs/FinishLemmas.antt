@@ -1,11 +1,9 @@
 -- Finish times at another rate and at a longer latency, and whole cycles.
-use Rattle.std.proofs.Common.{ℕ, ◌+◌, ◌*◌, ◌<◌, ◌≤◌, ◌≡◌, zero, suc, List, get_or, max, sym, ap, subst, inl}
-use Rattle.std.proofs.Common.{inr, arith}
-use Rattle.std.specs.Prelude.{All, length}
-use Rattle.std.specs.Int.{div_ceil}
+use Rattle.std.proofs.Common.{ℕ, ◌+◌, ◌*◌, ◌<◌, ◌≤◌, ◌≡◌, zero, suc, List, get_or, max, sym, ap}
+use Rattle.std.proofs.Common.{subst, inl, inr, arith, All, length}
 use Rattle.std.proofs.Math.Nat.{mul-le-mul_left, mul-le-mul_right}
-use Rattle.std.proofs.lemmas.Bool.{cases_lt}
-use Rattle.std.proofs.lemmas.Grind.{div_ceil_times}
+use Rattle.std.proofs.lemmas.{Bool.cases_lt, Grind.div_ceil_times}
+use Rattle.std.specs.Int.{div_ceil}
 use Rattle.aeth_server.specs.FinishTimes.{finish_time}
 
 -- A word that begins a busy period, at two rates.

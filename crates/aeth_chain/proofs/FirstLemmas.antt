@@ -1,25 +1,19 @@
 -- What is offered on the first channel of a chain.
-use Rattle.std.proofs.Common.{◌≡◌, ◌∙◌, ◌++◌, ◌<◌, ◌≤◌, ◌+◌, ℕ, Bool, true, List, [], ◌∷◌, Some, cond}
-use Rattle.std.proofs.Common.{filter, length, map, slice_get, take, get_or, refl, sym, ap, subst, inl, inr}
-use Rattle.std.proofs.Common.{arith}
-use Rattle.std.specs.Prelude.{All, nat_lt}
+use Rattle.std.proofs.Common.{◌≡◌, ◌∙◌, ◌++◌, ◌<◌, ◌≤◌, ◌+◌, ℕ, Bool, true, List, [], ◌∷◌, Some}
+use Rattle.std.proofs.Common.{cond, filter, length, map, slice_get, take, get_or, refl, sym, ap}
+use Rattle.std.proofs.Common.{subst, inl, inr, arith, All, nat_lt, ltb-true, take_all}
+use Rattle.std.proofs.lemmas.{Bool.cases_Bool, List.get_or-map, List.length-map, List.map-append}
+use Rattle.std.proofs.lemmas.{List.Elements.All-cons, List.Elements.All-head, List.Elements.All-nil}
+use Rattle.std.proofs.lemmas.{List.Elements.All-tail, List.Elements.filter-append}
+use Rattle.std.proofs.lemmas.{List.Elements.filter_passes, List.Kept.IsNonDecreasingBy-filter}
+use Rattle.std.proofs.lemmas.{List.Sums.length-filter, List.Sums.count_by-le-length}
 use Rattle.std.specs.List.Sorted.{IsNonDecreasing, IsNonDecreasingBy}
-use Rattle.std.proofs.lemmas.Bool.{cases_Bool, ltb-true}
-use Rattle.std.proofs.lemmas.List.{get_or-map, length-map, map-append, take_all}
-use Rattle.std.proofs.lemmas.List.Elements.{All-cons, All-head, All-nil, All-tail, filter-append}
-use Rattle.std.proofs.lemmas.List.Elements.{filter_passes}
-use Rattle.std.proofs.lemmas.List.Kept.{IsNonDecreasingBy-filter}
-use Rattle.std.proofs.lemmas.List.Sums.{length-filter, count_by-le-length}
-use Rattle.aeth_base.specs.declared.ids.Channel.{Channel}
-use Rattle.aeth_base.specs.declared.ids.Side.TheVariants.{Fwd}
+use Rattle.aeth_base.specs.declared.ids.{Channel.Channel, Side.TheVariants.Fwd}
 use Rattle.aeth_base.proofs.Lists.{take-slice_get}
-use Rattle.aeth_trace.specs.Channels.{is_channel}
-use Rattle.aeth_trace.specs.Limits.{max_rows}
-use Rattle.aeth_trace.specs.Words.{words_on}
-use Rattle.aeth_trace.specs.declared.words.WordRow.{WordRow}
-use Rattle.aeth_chain.specs.ChainRun.{cycles_of, offer_of}
-use Rattle.aeth_chain.specs.Lanes.{AreOffers}
-use Rattle.aeth_chain.specs.declared.passing.Offer.{Offer}
+use Rattle.aeth_trace.specs.{Channels.is_channel, Limits.max_rows, Words.words_on}
+use Rattle.aeth_trace.specs.{declared.words.WordRow.WordRow}
+use Rattle.aeth_chain.specs.{ChainRun.cycles_of, ChainRun.offer_of, Lanes.AreOffers}
+use Rattle.aeth_chain.specs.{declared.passing.Offer.Offer}
 
 module _ (cycles : ℕ) where
   abbrev early : WordRow → Bool

@@ -1,11 +1,8 @@
 -- When the words of a lane land, and how many do.
 use Rattle.std.proofs.Common.{ℕ, ◌+◌, ◌<◌, ◌≤◌, ◌≡◌, length, ap, arith}
-use Rattle.aeth_server.specs.Landing.{landing_cycle}
-use Rattle.aeth_server.specs.PrivateServer.{landed}
-use Rattle.aeth_server.specs.WordCycles.{sending_cycle}
+use Rattle.aeth_server.specs.{Landing.landing_cycle, PrivateServer.landed, WordCycles.sending_cycle}
 use Rattle.aeth_server.proofs.WordCycles.{landed-few, landed-reached, lands-more, word-landed}
-use Rattle.aeth_chain.specs.Lanes.{IsLane, server_in}
-use Rattle.aeth_chain.specs.declared.lane.Lane.{Lane}
+use Rattle.aeth_chain.specs.{Lanes.IsLane, Lanes.server_in, declared.lane.Lane.Lane}
 use Rattle.aeth_chain.proofs.LaneLemmas.{lane-count, lane-opens, shape-paths}
 
 module _ (lane : Lane) (is : IsLane lane) where

@@ -1,29 +1,25 @@
 -- The cycle in which a word of a lane is sent, and its credit, from those of the words before it.
-use Rattle.std.proofs.Common.{ℕ, ◌+◌, ◌-◌, ◌*◌, ◌<◌, ◌≤◌, ◌≡◌, ◌∙◌, ◌++◌, List, [], ◌∷◌, length, map}
-use Rattle.std.proofs.Common.{Bool, cond, filter, max, min, get_or, ap, sym, inl, inr, refl, arith}
-use Rattle.std.specs.List.{range_with_len}
-use Rattle.std.specs.Ordering.{nat_cmp, ord_min}
-use Rattle.std.specs.Prelude.{slice_index}
-use Rattle.std.proofs.lemmas.Bool.{cases_lt, le-leb, lt-leb, lt-ltb}
-use Rattle.std.proofs.lemmas.Bool.Decides.{nat_tests}
+use Rattle.std.proofs.Common.{ℕ, ◌+◌, ◌-◌, ◌*◌, ◌<◌, ◌≤◌, ◌≡◌, ◌∙◌, ◌++◌, List, [], ◌∷◌, length}
+use Rattle.std.proofs.Common.{map, Bool, cond, filter, max, min, get_or, ap, sym, inl, inr, refl}
+use Rattle.std.proofs.Common.{arith, slice_index, le-leb, lt-ltb}
+use Rattle.std.proofs.lemmas.Bool.{cases_lt, lt-leb, Decides.nat_tests}
 use Rattle.std.proofs.lemmas.List.{get_or-map, get_or_past, length-map}
 use Rattle.std.proofs.lemmas.List.FromFn.{get_or-map-range_with_len, length-map-range_with_len}
 use Rattle.std.proofs.lemmas.List.FromFn.{filter_of_map_range_with_len_more}
 use Rattle.std.proofs.lemmas.List.FromFn.{map-range_with_len_more}
-use Rattle.aeth_base.specs.Limits.{credits_per_flit, max_cycles, words_per_flit}
-use Rattle.aeth_base.specs.Limits.{max_path_delay}
+use Rattle.std.specs.{List.range_with_len, Ordering.nat_cmp, Ordering.ord_min}
+use Rattle.aeth_base.specs.Limits.{credits_per_flit, max_cycles, words_per_flit, max_path_delay}
 use Rattle.aeth_server.specs.ChannelShape.{IsShapeInRange, shape_of}
 use Rattle.aeth_server.specs.PrivateServer.{PrivateServer, accepted, pull_at as server_pull}
 use Rattle.aeth_server.specs.Shape.{HasPaths}
 use Rattle.aeth_server.specs.declared.shape.ChannelShape.{ChannelShape}
-use Rattle.aeth_server.proofs.WordCycles.{credited-reached, sent-reached, taken-reached}
-use Rattle.aeth_trace.specs.Receivers.{pull_at}
 use Rattle.aeth_server.specs.WordCycles.{IsCreditReady, IsOpenFor, IsReadyToGo, crediting_cycle}
 use Rattle.aeth_server.specs.WordCycles.{sending_cycle, taking_cycle}
-use Rattle.aeth_chain.specs.ChainRun.{cycles_of}
-use Rattle.aeth_chain.specs.Lanes.{IsLane, after, crediting_cycles, leg_in, sending_cycles, server_in}
-use Rattle.aeth_chain.specs.declared.lane.Lane.{Lane}
-use Rattle.aeth_chain.specs.declared.passing.Offer.{Offer}
+use Rattle.aeth_server.proofs.WordCycles.{credited-reached, sent-reached, taken-reached}
+use Rattle.aeth_trace.specs.Receivers.{pull_at}
+use Rattle.aeth_chain.specs.{ChainRun.cycles_of, Lanes.IsLane, Lanes.after, Lanes.crediting_cycles}
+use Rattle.aeth_chain.specs.{Lanes.leg_in, Lanes.sending_cycles, Lanes.server_in}
+use Rattle.aeth_chain.specs.{declared.lane.Lane.Lane, declared.passing.Offer.Offer}
 use Rattle.aeth_chain.proofs.OfferLemmas.{accepted-is, opens}
 
 module _ (cycle : ℕ → ℕ) (place back delay : ℕ) where

@@ -1,24 +1,20 @@
 -- A leg of a chain keeps its part of the bound, and hands it on to the next.
 use Rattle.std.proofs.Common.{ℕ, ◌+◌, ◌-◌, ◌*◌, ◌<◌, ◌≤◌, ◌≡◌, ◌∙◌, suc, get_or, length, ap, arith}
-use Rattle.std.specs.Int.{div_ceil}
-use Rattle.std.specs.Prelude.{List}
+use Rattle.std.proofs.Common.{List}
 use Rattle.std.proofs.Math.Nat.{mul-le-mul_left, le_of_mul-le-mul_left}
 use Rattle.std.proofs.lemmas.List.{length-map}
-use Rattle.aeth_server.specs.FinishTimes.{finish_time}
-use Rattle.aeth_server.specs.Landing.{KeepsDelay, due_time}
-use Rattle.aeth_server.specs.PrivateServer.{PrivateServer, landed}
-use Rattle.aeth_server.specs.Shape.{IsGranted, channel_latency}
-use Rattle.aeth_server.specs.WordCycles.{taking_cycle}
-use Rattle.aeth_server.proofs.CreditLoop.{landed-due}
-use Rattle.aeth_server.proofs.WordCycles.{landed-few, taken-by}
+use Rattle.std.specs.Int.{div_ceil}
+use Rattle.aeth_server.specs.{FinishTimes.finish_time, Landing.KeepsDelay, Landing.due_time}
+use Rattle.aeth_server.specs.{PrivateServer.PrivateServer, PrivateServer.landed, Shape.IsGranted}
+use Rattle.aeth_server.specs.{Shape.channel_latency, WordCycles.taking_cycle}
+use Rattle.aeth_server.proofs.{CreditLoop.landed-due, WordCycles.landed-few, WordCycles.taken-by}
 use Rattle.aeth_trace.specs.declared.receivers.PullRow.{PullRow}
-use Rattle.aeth_chain.specs.Chain.{Leg}
-use Rattle.aeth_chain.specs.ChainRun.{cycles_of, passed_on, server_on}
-use Rattle.aeth_chain.specs.Lanes.{AreOffers}
-use Rattle.aeth_chain.specs.declared.passing.Offer.{Offer}
+use Rattle.aeth_chain.specs.{Chain.Leg, ChainRun.cycles_of, ChainRun.passed_on, ChainRun.server_on}
+use Rattle.aeth_chain.specs.{Lanes.AreOffers, declared.passing.Offer.Offer}
 use Rattle.aeth_chain.proofs.FinishLemmas.{chain-finish, time-rises, whole-cycle}
-use Rattle.aeth_chain.proofs.OfferLemmas.{accepted-is, cycles-passed, kept-first, opens, passed-offers}
-use Rattle.aeth_chain.proofs.OfferLemmas.{passing, passing-at, passing-length, passing-order}
+use Rattle.aeth_chain.proofs.OfferLemmas.{accepted-is, cycles-passed, kept-first, opens}
+use Rattle.aeth_chain.proofs.OfferLemmas.{passed-offers, passing, passing-at, passing-length}
+use Rattle.aeth_chain.proofs.OfferLemmas.{passing-order}
 
 -- Within a run each of the first so many words has landed in each cycle that its time has passed, which is
 -- given as a rate times the cycle, while something holds by which the receiver keeps its delay.

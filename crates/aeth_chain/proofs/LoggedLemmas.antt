@@ -1,33 +1,25 @@
 -- A chain is a run of an accepted plan: its private servers are those of the run that has its offers as
 -- words, and the landings are those of that run's log.
-use Rattle.std.proofs.Common.{◌≡◌, ◌∙◌, ◌<◌, ◌≤◌, ℕ, true, List, []}
-use Rattle.std.proofs.Common.{◌∷◌, Some, filter, length, slice_get, refl}
-use Rattle.std.proofs.Common.{sym, ap, arith}
-use Rattle.std.specs.Prelude.{option_map}
-use Rattle.std.specs.List.{range_with_len}
+use Rattle.std.proofs.Common.{◌≡◌, ◌∙◌, ◌<◌, ◌≤◌, ℕ, true, List, [], ◌∷◌, Some, filter, length}
+use Rattle.std.proofs.Common.{slice_get, refl, sym, ap, arith, option_map}
 use Rattle.std.proofs.lemmas.List.Elements.{All-cons, All-nil}
 use Rattle.std.proofs.lemmas.List.Sorted.{IsNonDecreasingBy-short}
 use Rattle.std.proofs.lemmas.Option.{same_Some, slice_get-map}
-use Rattle.aeth_base.specs.declared.ids.Channel.{Channel}
-use Rattle.aeth_base.specs.declared.ids.UseId.{UseId}
-use Rattle.aeth_base.specs.Limits.{max_cycles}
-use Rattle.aeth_base.specs.Sides.{channels_with}
+use Rattle.std.specs.List.{range_with_len}
+use Rattle.aeth_base.specs.{declared.ids.Channel.Channel, declared.ids.UseId.UseId}
+use Rattle.aeth_base.specs.{Limits.max_cycles, Sides.channels_with}
 use Rattle.aeth_base.proofs.Lists.{map-slice_get}
 use Rattle.aeth_base.proofs.Members.{Contains-slice_get, filter-Contains, flat_map-Contains}
 use Rattle.aeth_base.proofs.Ranges.{range-Contains}
-use Rattle.aeth_server.specs.ChannelShape.{shape_of}
-use Rattle.aeth_server.specs.declared.shape.ChannelShape.{ChannelShape}
+use Rattle.aeth_server.specs.{ChannelShape.shape_of, declared.shape.ChannelShape.ChannelShape}
 use Rattle.aeth_group.specs.Members.{group_at, groups_of, has_at}
-use Rattle.aeth_trace.specs.declared.switches.SwitchRow.{SwitchRow}
-use Rattle.aeth_trace.specs.declared.words.WordRow.{WordRow}
+use Rattle.aeth_trace.specs.declared.{switches.SwitchRow.SwitchRow, words.WordRow.WordRow}
 use Rattle.aeth_reconf.specs.Rows.{channels_that}
-use Rattle.aeth_report.specs.Design.{shape_at}
-use Rattle.aeth_report.proofs.ChannelLemmas.{of_connection}
+use Rattle.aeth_report.{specs.Design.shape_at, proofs.ChannelLemmas.of_connection}
 use Rattle.aeth_tables.specs.Tables.{tables_of}
 use Rattle.aeth_accepted.specs.Inputs.{AreAccepted, Inputs, design_of, row_at}
 use Rattle.aeth_accepted.proofs.TableFlows.{rows-of_tables, shapes-of_tables}
-use Rattle.aeth_chain.specs.ChainInputs.{AreTabled}
-use Rattle.aeth_chain.specs.declared.item.ChainItem.{ChainItem}
+use Rattle.aeth_chain.specs.{ChainInputs.AreTabled, declared.item.ChainItem.ChainItem}
 
 -- ---- what tables say
 -- An item's channel is in the use case, and has its shape there.

@@ -1,28 +1,20 @@
 -- The rows of a channel among those that a chain offers: what is offered on it.
 use Rattle.std.proofs.Common.{◌≡◌, ◌∙◌, ◌<◌, ◌≤◌, ◌+◌, ◌++◌, ℕ, zero, suc, true, false, List, []}
-use Rattle.std.proofs.Common.{◌∷◌, Some, filter, flat_map, map, slice_get, refl, sym, ap, inl}
-use Rattle.std.proofs.Common.{inr, arith}
-use Rattle.std.specs.Prelude.{◌==◌, All, nat_lt}
-use Rattle.std.specs.List.{range_with_len}
-use Rattle.std.specs.List.Sorted.{IsNonDecreasing, IsNonDecreasingBy}
-use Rattle.std.proofs.lemmas.Bool.{cases_eq, cases_lt, eq-eqb, false_from_ne_true, le-ltb, lt-ltb, ne_eqb}
-use Rattle.std.proofs.lemmas.List.{append-nil, get_or-map, length-map, map-append}
-use Rattle.std.proofs.lemmas.Option.{same_Some}
+use Rattle.std.proofs.Common.{◌∷◌, Some, filter, flat_map, map, slice_get, refl, sym, ap, inl, inr}
+use Rattle.std.proofs.Common.{arith, ◌==◌, All, nat_lt, eq-eqb, le-ltb, lt-ltb, ne_eqb, append-nil}
+use Rattle.std.proofs.lemmas.Bool.{cases_eq, cases_lt, false_from_ne_true}
+use Rattle.std.proofs.lemmas.List.{get_or-map, length-map, map-append}
 use Rattle.std.proofs.lemmas.List.Elements.{All-head, All-tail, All-weaker, filter-append}
+use Rattle.std.proofs.lemmas.Option.{same_Some}
 use Rattle.std.proofs.lemmas.Grind.{flat_map-append}
-use Rattle.aeth_base.specs.declared.ids.Channel.{Channel}
-use Rattle.aeth_base.proofs.Ranges.{range_with_len-more}
-use Rattle.aeth_trace.specs.Channels.{is_channel}
-use Rattle.aeth_trace.specs.Words.{words_on}
-use Rattle.aeth_trace.specs.declared.words.WordRow.{WordRow}
+use Rattle.std.specs.List.{range_with_len, Sorted.IsNonDecreasing, Sorted.IsNonDecreasingBy}
+use Rattle.aeth_base.{specs.declared.ids.Channel.Channel, proofs.Ranges.range_with_len-more}
+use Rattle.aeth_trace.specs.{Channels.is_channel, Words.words_on, declared.words.WordRow.WordRow}
 use Rattle.aeth_trace.proofs.OrderLemmas.{first_least, later_rise}
 use Rattle.aeth_report.proofs.ChannelLemmas.{is_channel-itself, same_channel}
-use Rattle.aeth_chain.specs.ChainInputs.{offered_rows, row_of, rows_at}
-use Rattle.aeth_chain.specs.ChainRun.{cycles_of}
-use Rattle.aeth_chain.specs.Chain.{AreDistinct}
-use Rattle.aeth_chain.specs.Lanes.{AreOffers}
-use Rattle.aeth_chain.specs.declared.item.ChainItem.{ChainItem}
-use Rattle.aeth_chain.specs.declared.passing.Offer.{Offer}
+use Rattle.aeth_chain.specs.{ChainInputs.offered_rows, ChainInputs.row_of, ChainInputs.rows_at}
+use Rattle.aeth_chain.specs.{ChainRun.cycles_of, Chain.AreDistinct, Lanes.AreOffers}
+use Rattle.aeth_chain.specs.{declared.item.ChainItem.ChainItem, declared.passing.Offer.Offer}
 
 -- ---- offers by their cycles
 abbrev at : Offer → ℕ

@@ -1,27 +1,22 @@
 -- Offers of a run: a private server accepts all of them, and what a core passes on are offers too.
 use Rattle.std.proofs.Common.{◌&&◌, ◌<◌, ◌≤◌, ◌≡◌, ◌∙◌, ◌+◌, ℕ, List, [], ◌∷◌, filter, length, map}
-use Rattle.std.proofs.Common.{Bool, true, get_or, refl, sym, ap, zero, suc, arith}
-use Rattle.std.specs.Prelude.{All, nat_le, nat_lt}
-use Rattle.std.specs.List.{range_with_len}
-use Rattle.std.specs.List.Sorted.{IsNonDecreasing}
-use Rattle.std.proofs.lemmas.Bool.{le-leb, lt-ltb, ltb-true}
+use Rattle.std.proofs.Common.{Bool, true, get_or, refl, sym, ap, zero, suc, arith, All, nat_le}
+use Rattle.std.proofs.Common.{nat_lt, le-leb, lt-ltb, ltb-true}
 use Rattle.std.proofs.lemmas.List.Elements.{All-head, All-tail, All-weaker, filter_passes}
 use Rattle.std.proofs.lemmas.List.FromFn.{get_or-map-range_with_len, length-map-range_with_len}
 use Rattle.std.proofs.lemmas.List.Kept.{IsNonDecreasingBy-filter}
 use Rattle.std.proofs.lemmas.List.Sorted.{IsNonDecreasingBy-from_default}
 use Rattle.std.proofs.lemmas.List.Sums.{length-filter, count_by-le-length}
 use Rattle.std.proofs.lemmas.Simd.{map-map}
-use Rattle.aeth_base.proofs.Filters.{filter-map}
-use Rattle.aeth_base.proofs.Lists.{IsNonDecreasing-tail}
-use Rattle.aeth_server.specs.PrivateServer.{PrivateServer, accepted}
-use Rattle.aeth_server.specs.Shape.{HasPaths}
-use Rattle.aeth_server.specs.WordCycles.{IsOpenFor, taking_cycle}
+use Rattle.std.specs.List.{range_with_len, Sorted.IsNonDecreasing}
+use Rattle.aeth_base.proofs.{Filters.filter-map, Lists.IsNonDecreasing-tail}
+use Rattle.aeth_server.specs.{PrivateServer.PrivateServer, PrivateServer.accepted, Shape.HasPaths}
+use Rattle.aeth_server.specs.{WordCycles.IsOpenFor, WordCycles.taking_cycle}
 use Rattle.aeth_server.proofs.WordCycles.{taking-rises}
 use Rattle.aeth_trace.specs.declared.receivers.PullRow.{PullRow}
-use Rattle.aeth_chain.specs.Chain.{Leg}
-use Rattle.aeth_chain.specs.ChainRun.{cycles_of, offer_behind, passed_on, server_on}
-use Rattle.aeth_chain.specs.Lanes.{AreOffers}
-use Rattle.aeth_chain.specs.declared.passing.Offer.{Offer}
+use Rattle.aeth_chain.specs.{Chain.Leg, ChainRun.cycles_of, ChainRun.offer_behind}
+use Rattle.aeth_chain.specs.{ChainRun.passed_on, ChainRun.server_on, Lanes.AreOffers}
+use Rattle.aeth_chain.specs.{declared.passing.Offer.Offer}
 
 -- Cycles below the end of a session that goes from 0 on are accepted by it.
 accepted-all : (end : ℕ) (offers : List Offer) → All (λ offer. offer.cycle < end) offers

@@ -1,6 +1,7 @@
 -- Where a receiver stands, from word to word.
 use Rattle.std.proofs.Common.{ℕ, ◌+◌, ◌-◌, ◌<◌, ◌≤◌, ◌≡◌, ◌∙◌, ap, sym, subst, inl, inr, arith}
-use Rattle.std.proofs.lemmas.Bool.{cases_eq, le-leb}
+use Rattle.std.proofs.Common.{le-leb}
+use Rattle.std.proofs.lemmas.Bool.{cases_eq}
 use Rattle.aeth_base.proofs.ExtremeLemmas.{least_below-is}
 use Rattle.aeth_server.specs.Landing.{landing_cycle}
 use Rattle.aeth_server.specs.PrivateServer.{PrivateServer, pull_at, taken}

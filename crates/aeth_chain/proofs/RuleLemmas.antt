@@ -1,26 +1,24 @@
 -- What the rules of a chain's items give.
 use Rattle.std.proofs.Common.{◌≡◌, ◌∙◌, ◌<◌, ◌+◌, ℕ, zero, suc, Bool, true, false, List, [], ◌∷◌}
-use Rattle.std.proofs.Common.{Some, cond, length, map, slice_get, take, refl, sym, ap, subst}
-use Rattle.std.proofs.Common.{inl, inr, get_or, add-zero, arith}
-use Rattle.std.specs.Prelude.{Ok, Err}
-use Rattle.std.proofs.lemmas.Bool.{both_ways, cases_order, ltb-true, not-true}
-use Rattle.std.proofs.lemmas.List.{get_or-take, get_or_default, length-map, length-take}
-use Rattle.std.proofs.lemmas.Option.{get_or_from_slice_get, slice_get_within}
-use Rattle.std.proofs.lemmas.Simd.{map-map}
+use Rattle.std.proofs.Common.{Some, cond, length, map, slice_get, take, refl, sym, ap, subst, inl}
+use Rattle.std.proofs.Common.{inr, get_or, add-zero, arith, Ok, Err, ltb-true, get_or-take}
+use Rattle.std.proofs.Common.{length-take}
+use Rattle.std.proofs.lemmas.{Bool.both_ways, Bool.cases_order, Bool.not-true, List.get_or_default}
+use Rattle.std.proofs.lemmas.{List.length-map, Option.get_or_from_slice_get}
+use Rattle.std.proofs.lemmas.{Option.slice_get_within, Simd.map-map}
 use Rattle.aeth_app.specs.App.{AppData}
 use Rattle.aeth_group.proofs.ListLemmas.{any_from_passes}
 use Rattle.aeth_trace.specs.Channels.{is_channel}
 use Rattle.aeth_report.proofs.ChannelLemmas.{is_channel-itself}
-use Rattle.aeth_chain.specs.Chain.{AreDistinct}
-use Rattle.aeth_chain.specs.declared.item.ChainItem.{ChainItem}
-use Rattle.aeth_chain.specs.ChainItems.{AreItemsOf, are_kept, channel_at, item_of, judged_by, keeps}
-use Rattle.aeth_chain.specs.ChainItems.{no_item}
-use Rattle.aeth_chain.specs.Fault.{broken_at}
-use Rattle.aeth_chain.specs.ItemNames.{AreItemNames, AreWorks}
-use Rattle.aeth_chain.specs.declared.fault.ItemRule.{ItemRule}
-use Rattle.aeth_chain.specs.declared.fault.ItemRule.TheVariants.{NotInUse, Repeated}
-use Rattle.aeth_chain.specs.declared.fault.ItemRule.TheVariants.{UnknownConnection}
-use Rattle.aeth_chain.specs.declared.names.ItemName.{ItemName}
+use Rattle.aeth_chain.specs.{Chain.AreDistinct, declared.item.ChainItem.ChainItem}
+use Rattle.aeth_chain.specs.{ChainItems.AreItemsOf, ChainItems.are_kept, ChainItems.channel_at}
+use Rattle.aeth_chain.specs.{ChainItems.item_of, ChainItems.judged_by, ChainItems.keeps}
+use Rattle.aeth_chain.specs.{ChainItems.no_item, Fault.broken_at, ItemNames.AreItemNames}
+use Rattle.aeth_chain.specs.{ItemNames.AreWorks, declared.fault.ItemRule.ItemRule}
+use Rattle.aeth_chain.specs.{declared.fault.ItemRule.TheVariants.NotInUse}
+use Rattle.aeth_chain.specs.{declared.fault.ItemRule.TheVariants.Repeated}
+use Rattle.aeth_chain.specs.{declared.fault.ItemRule.TheVariants.UnknownConnection}
+use Rattle.aeth_chain.specs.{declared.names.ItemName.ItemName}
 
 -- A rule that all keep holds at each place.
 kept-all : (rule : ItemRule) (test : ℕ → Bool) (place : ℕ) (names : List ItemName)

@@ -1,21 +1,17 @@
 -- A running chain: its time from word to word, which stays small.
-use Rattle.std.proofs.Common.{ℕ, ◌+◌, ◌*◌, ◌<◌, ◌≤◌, ◌≡◌, ◌∙◌, List, [], ◌∷◌, length, max, get_or, ap}
-use Rattle.std.proofs.Common.{refl, sym, suc, arith}
-use Rattle.std.specs.Prelude.{All, slice_index}
+use Rattle.std.proofs.Common.{ℕ, ◌+◌, ◌*◌, ◌<◌, ◌≤◌, ◌≡◌, ◌∙◌, List, [], ◌∷◌, length, max, get_or}
+use Rattle.std.proofs.Common.{ap, refl, sym, suc, arith, All, slice_index}
 use Rattle.std.proofs.Math.Nat.{mul-le-mul}
 use Rattle.std.proofs.lemmas.List.{get_or-map, length-map}
 use Rattle.std.proofs.lemmas.List.Elements.{All-cons, All-head, All-nil, All-tail}
 use Rattle.aeth_base.specs.Limits.{max_cycles, max_slots, words_per_flit}
-use Rattle.aeth_server.specs.FinishTimes.{finish_time}
-use Rattle.aeth_server.specs.ChannelShape.{shape_of}
-use Rattle.aeth_server.specs.declared.shape.ChannelShape.{ChannelShape}
-use Rattle.aeth_chain.specs.Chain.{IsChain, legs_of, size_of}
-use Rattle.aeth_chain.specs.ChainRun.{chain_time, cycles_of}
-use Rattle.aeth_chain.specs.Lanes.{IsRunning, legs_in}
-use Rattle.aeth_chain.specs.Limits.{max_chain_items, max_leg_latency}
-use Rattle.aeth_chain.specs.declared.item.ChainItem.{ChainItem}
-use Rattle.aeth_chain.specs.declared.passing.Offer.{Offer}
-use Rattle.aeth_chain.specs.declared.run.Running.{Running}
+use Rattle.aeth_server.specs.{FinishTimes.finish_time, ChannelShape.shape_of}
+use Rattle.aeth_server.specs.{declared.shape.ChannelShape.ChannelShape}
+use Rattle.aeth_chain.specs.{Chain.IsChain, Chain.legs_of, Chain.size_of, ChainRun.chain_time}
+use Rattle.aeth_chain.specs.{ChainRun.cycles_of, Lanes.IsRunning, Lanes.legs_in}
+use Rattle.aeth_chain.specs.{Limits.max_chain_items, Limits.max_leg_latency}
+use Rattle.aeth_chain.specs.{declared.item.ChainItem.ChainItem, declared.passing.Offer.Offer}
+use Rattle.aeth_chain.specs.{declared.run.Running.Running}
 use Rattle.aeth_chain.proofs.FinishLemmas.{finish-most}
 
 -- The size of a chain is that of its first shape.

@@ -1,16 +1,13 @@
 -- What is asked of a chain, over its legs.
 use Rattle.std.proofs.Common.{ℕ, ◌+◌, ◌≤◌, ◌≡◌, List, [], ◌∷◌, Some, length, slice_get, refl, sym}
-use Rattle.std.proofs.Common.{◌-◌, ◌∙◌, ap, drop, take, subst, suc, get_or, arith}
-use Rattle.std.specs.Prelude.{All}
-use Rattle.std.proofs.lemmas.List.{length-drop, take_all}
+use Rattle.std.proofs.Common.{◌-◌, ◌∙◌, ap, drop, take, subst, suc, get_or, arith, All, length-drop}
+use Rattle.std.proofs.Common.{take_all}
 use Rattle.std.proofs.lemmas.List.Elements.{All-cons, All-head, All-nil, All-tail}
-use Rattle.aeth_server.specs.ChannelShape.{shape_of}
-use Rattle.aeth_server.specs.Shape.{IsGranted, channel_latency}
-use Rattle.aeth_server.specs.declared.shape.ChannelShape.{ChannelShape}
-use Rattle.aeth_chain.specs.Chain.{IsChain, latency_along, leg_of, legs_of, passing_latency}
-use Rattle.aeth_chain.specs.Chain.{size_of}
-use Rattle.aeth_chain.specs.declared.item.ChainItem.{ChainItem}
-use Rattle.aeth_chain.proofs.ChainLemmas.{IsLegOf}
+use Rattle.aeth_server.specs.{ChannelShape.shape_of, Shape.IsGranted, Shape.channel_latency}
+use Rattle.aeth_server.specs.{declared.shape.ChannelShape.ChannelShape}
+use Rattle.aeth_chain.{specs.Chain.IsChain, specs.Chain.latency_along, specs.Chain.leg_of}
+use Rattle.aeth_chain.{specs.Chain.legs_of, specs.Chain.passing_latency, specs.Chain.size_of}
+use Rattle.aeth_chain.{specs.declared.item.ChainItem.ChainItem, proofs.ChainLemmas.IsLegOf}
 
 -- Shapes of one size that are granted make legs of that size.
 legs-are : (size : ℕ) (items : List ChainItem) (shapes : List ChannelShape)

@@ -1,27 +1,21 @@
 -- The shapes of a chain's channels in the tables of a use case.
-use Rattle.std.proofs.Common.{◌≡◌, ◌∙◌, ◌<◌, ◌+◌, ◌-◌, ℕ, zero, suc, true, List, [], ◌∷◌}
-use Rattle.std.proofs.Common.{Contains, Option, Some, None, cond, length, map, slice_get, get_or, refl, sym}
-use Rattle.std.proofs.Common.{◌++◌, ap, subst, take, inl, inr, arith}
-use Rattle.std.specs.Prelude.{option_map}
+use Rattle.std.proofs.Common.{◌≡◌, ◌∙◌, ◌<◌, ◌+◌, ◌-◌, ℕ, zero, suc, true, List, [], ◌∷◌, Contains}
+use Rattle.std.proofs.Common.{Option, Some, None, cond, length, map, slice_get, get_or, refl, sym}
+use Rattle.std.proofs.Common.{◌++◌, ap, subst, take, inl, inr, arith, option_map, lt-ltb}
+use Rattle.std.proofs.lemmas.Bool.{both_ways, cases_lt}
+use Rattle.std.proofs.lemmas.List.{length-map, take_more, Elements.filter_map-append}
+use Rattle.std.proofs.lemmas.List.{Sums.fails_before_first, Sums.passes_at_first}
+use Rattle.std.proofs.lemmas.Option.{get_or_from_slice_get, same_Some, slice_get-get_or}
+use Rattle.std.proofs.lemmas.Option.{slice_get-map, slice_get_within}
 use Rattle.std.specs.List.{cons_option, filter_map, position_or_len, range_with_len}
 use Rattle.std.specs.Option.{option_and_then}
-use Rattle.std.proofs.lemmas.Bool.{both_ways, cases_lt, lt-ltb}
-use Rattle.std.proofs.lemmas.List.{length-map, take_more}
-use Rattle.std.proofs.lemmas.List.Elements.{filter_map-append}
-use Rattle.std.proofs.lemmas.List.Sums.{fails_before_first, passes_at_first}
-use Rattle.std.proofs.lemmas.Option.{get_or_from_slice_get, same_Some, slice_get-get_or, slice_get-map}
-use Rattle.std.proofs.lemmas.Option.{slice_get_within}
-use Rattle.aeth_base.specs.declared.ids.Channel.{Channel}
-use Rattle.aeth_base.specs.declared.ids.UseId.{UseId}
-use Rattle.aeth_base.specs.Sides.{channels_with}
-use Rattle.aeth_base.proofs.Lists.{item-at, map-slice_get}
-use Rattle.aeth_base.proofs.Members.{All-slice_get, Contains-filter, Contains-flat_map}
-use Rattle.aeth_base.proofs.Members.{slice_get-Contains}
-use Rattle.aeth_base.proofs.Ranges.{Contains-range}
-use Rattle.aeth_base.proofs.SideLemmas.{own-channel}
+use Rattle.aeth_base.{specs.declared.ids.Channel.Channel, specs.declared.ids.UseId.UseId}
+use Rattle.aeth_base.{specs.Sides.channels_with, proofs.Lists.item-at, proofs.Lists.map-slice_get}
+use Rattle.aeth_base.{proofs.Members.All-slice_get, proofs.Members.Contains-filter}
+use Rattle.aeth_base.{proofs.Members.Contains-flat_map, proofs.Members.slice_get-Contains}
+use Rattle.aeth_base.{proofs.Ranges.Contains-range, proofs.SideLemmas.own-channel}
 use Rattle.aeth_slots.specs.SlotSet.{Slots}
-use Rattle.aeth_server.specs.ChannelShape.{IsShapeInRange}
-use Rattle.aeth_server.specs.declared.shape.ChannelShape.{ChannelShape}
+use Rattle.aeth_server.specs.{ChannelShape.IsShapeInRange, declared.shape.ChannelShape.ChannelShape}
 use Rattle.aeth_chip.specs.Chip.{ChipData}
 use Rattle.aeth_app.specs.App.{AppData, has_connection}
 use Rattle.aeth_group.specs.Members.{groups_of, has_at}
@@ -30,15 +24,11 @@ use Rattle.aeth_plan.specs.Plan.{PlanData}
 use Rattle.aeth_ni.specs.declared.row.ChannelRow.{ChannelRow}
 use Rattle.aeth_trace.specs.Channels.{is_channel}
 use Rattle.aeth_report.proofs.ChannelLemmas.{is_channel-itself, same_channel}
-use Rattle.aeth_tables.specs.Granted.{channels_of}
-use Rattle.aeth_tables.specs.Promises.{KeepPromises}
-use Rattle.aeth_tables.specs.TableText.{IsRowOf}
-use Rattle.aeth_tables.specs.Tables.{TablesData, tables_of}
-use Rattle.aeth_chain.specs.Chain.{IsChain}
-use Rattle.aeth_chain.specs.ChainInputs.{IsShapeIn}
-use Rattle.aeth_chain.specs.declared.item.ChainItem.{ChainItem}
-use Rattle.aeth_chain.specs.ChainItems.{AreItemsOf}
-use Rattle.aeth_chain.specs.Shapes.{AreShapesIn, shape_in, shapes_in}
+use Rattle.aeth_tables.specs.{Granted.channels_of, Promises.KeepPromises, TableText.IsRowOf}
+use Rattle.aeth_tables.specs.{Tables.TablesData, Tables.tables_of}
+use Rattle.aeth_chain.specs.{Chain.IsChain, ChainInputs.IsShapeIn}
+use Rattle.aeth_chain.specs.{declared.item.ChainItem.ChainItem, ChainItems.AreItemsOf}
+use Rattle.aeth_chain.specs.{Shapes.AreShapesIn, Shapes.shape_in, Shapes.shapes_in}
 use Rattle.aeth_chain.proofs.WorkLemmas.{works-inner, works-last, works-some}
 
 -- ---- lists

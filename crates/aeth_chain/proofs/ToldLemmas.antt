@@ -1,14 +1,13 @@
 -- Items that keep their rules are items of the use case.
-use Rattle.std.proofs.Common.{◌≡◌, ℕ, List, map, subst}
-use Rattle.std.specs.Prelude.{Ok}
+use Rattle.std.proofs.Common.{◌≡◌, ℕ, List, map, subst, Ok}
 use Rattle.aeth_app.specs.App.{AppData}
 use Rattle.aeth_document.proofs.ChainLemmas.{bind_ok}
 use Rattle.aeth_chain.specs.declared.item.ChainItem.{ChainItem}
+use Rattle.aeth_chain.specs.declared.fault.ItemRule.TheVariants.{NotInUse, NotJoined, Repeated}
+use Rattle.aeth_chain.specs.declared.fault.ItemRule.TheVariants.{UnknownConnection}
+use Rattle.aeth_chain.specs.declared.names.ItemName.{ItemName}
 use Rattle.aeth_chain.specs.ChainItems.{AreItemsOf, item_of, items_of, judged_by}
 use Rattle.aeth_chain.specs.ItemNames.{AreItemNames}
-use Rattle.aeth_chain.specs.declared.fault.ItemRule.TheVariants.{NotInUse, NotJoined}
-use Rattle.aeth_chain.specs.declared.fault.ItemRule.TheVariants.{Repeated, UnknownConnection}
-use Rattle.aeth_chain.specs.declared.names.ItemName.{ItemName}
 use Rattle.aeth_chain.proofs.RuleLemmas.{kept-items}
 
 -- The items that names tell are those of the use case.

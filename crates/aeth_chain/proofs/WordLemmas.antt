@@ -1,17 +1,15 @@
 -- The pieces of a word, and the items that they tell.
 use Rattle.std.proofs.Common.{◌≡◌, ◌∙◌, ◌==◌, ◌++◌, ◌≤◌, ℕ, Bool, true, false, List, [], ◌∷◌}
-use Rattle.std.proofs.Common.{Option, Some, None, length, not, refl, sym, ap, arith, append_assoc, append-nil}
-use Rattle.std.proofs.Common.{length-append}
-use Rattle.std.specs.Prelude.{is_none, is_some, nat_le, option_map}
-use Rattle.std.specs.Borrow.{Bor}
-use Rattle.std.proofs.lemmas.Bool.{cond-false, cond-true, false≢true, le-leb, lt-leb, ne_eqb, true≢false}
+use Rattle.std.proofs.Common.{Option, Some, None, length, not, refl, sym, ap, arith, append_assoc}
+use Rattle.std.proofs.Common.{append-nil, length-append, is_none, is_some, nat_le, option_map}
+use Rattle.std.proofs.Common.{le-leb, ne_eqb, true≢false}
+use Rattle.std.proofs.lemmas.Bool.{cond-false, cond-true, false≢true, lt-leb}
 use Rattle.std.proofs.lemmas.List.Splits.{length-slice_split}
-use Rattle.aeth_text.specs.Grammar.{both, kept, parts, words_left}
-use Rattle.aeth_text.proofs.Fronts.{with_front}
-use Rattle.aeth_text.specs.Limits.{comma}
-use Rattle.aeth_chain.specs.Limits.{colon, max_chain_items}
-use Rattle.aeth_chain.specs.ItemNames.{item_in, items_in}
-use Rattle.aeth_chain.specs.declared.names.ItemName.{ItemName}
+use Rattle.std.specs.Borrow.{Bor}
+use Rattle.aeth_text.{specs.Grammar.both, specs.Grammar.kept, specs.Grammar.parts}
+use Rattle.aeth_text.{specs.Grammar.words_left, proofs.Fronts.with_front, specs.Limits.comma}
+use Rattle.aeth_chain.specs.{Limits.colon, Limits.max_chain_items, ItemNames.item_in}
+use Rattle.aeth_chain.specs.{ItemNames.items_in, declared.names.ItemName.ItemName}
 
 -- A text has a part at least.
 pub parts-some : (separator : ℕ) (text : List ℕ) → 1 ≤ length (parts separator text)

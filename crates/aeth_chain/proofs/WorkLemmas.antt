@@ -1,16 +1,11 @@
 -- The works of the items that a word tells.
-use Rattle.std.proofs.Common.{◌≡◌, ◌∙◌, ◌==◌, ◌≤◌, ◌<◌, ◌+◌, ℕ, zero, suc, true, false, List}
-use Rattle.std.proofs.Common.{[], ◌∷◌, Option, Some, None, length, map, slice_get, refl, sym, ap, subst}
-use Rattle.std.proofs.Common.{arith}
-use Rattle.std.specs.Prelude.{nat_le, option_map}
-use Rattle.std.proofs.lemmas.Bool.{and_parts, leb-true, ne_eqb}
-use Rattle.std.proofs.lemmas.Option.{none-some, same_Some}
-use Rattle.aeth_base.specs.Name.{name_of}
-use Rattle.aeth_base.specs.declared.ids.Side.{Side}
-use Rattle.aeth_text.specs.Fields.{number_in, side_in}
-use Rattle.aeth_text.specs.Grammar.{both, parts}
-use Rattle.aeth_text.specs.Limits.{comma}
-use Rattle.aeth_text.proofs.Readers.{kept_some}
+use Rattle.std.proofs.Common.{◌≡◌, ◌∙◌, ◌==◌, ◌≤◌, ◌<◌, ◌+◌, ℕ, zero, suc, true, false, List, []}
+use Rattle.std.proofs.Common.{◌∷◌, Option, Some, None, length, map, slice_get, refl, sym, ap, subst}
+use Rattle.std.proofs.Common.{arith, nat_le, option_map, leb-true, ne_eqb}
+use Rattle.std.proofs.lemmas.{Bool.and_parts, Option.none-some, Option.same_Some}
+use Rattle.aeth_base.specs.{Name.name_of, declared.ids.Side.Side}
+use Rattle.aeth_text.{specs.Fields.number_in, specs.Fields.side_in, specs.Grammar.both}
+use Rattle.aeth_text.{specs.Grammar.parts, specs.Limits.comma, proofs.Readers.kept_some}
 use Rattle.aeth_chain.specs.Limits.{colon, max_chain_items, max_work}
 use Rattle.aeth_chain.specs.ItemNames.{AreItemNames, AreWorks, is_work, item_in, item_names_of}
 use Rattle.aeth_chain.specs.ItemNames.{items_in, named_item, work_in}

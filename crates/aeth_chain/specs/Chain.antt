@@ -7,16 +7,14 @@
 --   bound_of, size_of      both, and the table size
 -- Latency-rate servers one after the other: after Stiliadis and Varma (1998). The delay of receivers, the
 -- work and whole cycles: this project's own.
-use Rattle.std.specs.Prelude.{ℕ, ◌+◌, ◌-◌, ◌<◌, ◌≤◌, ◌≡◌, All, List, [], ◌∷◌, Some, length, min}
-use Rattle.std.specs.Prelude.{slice_get}
+use Rattle.std.proofs.Common.{ℕ, ◌+◌, ◌-◌, ◌<◌, ◌≤◌, ◌≡◌, All, List, [], ◌∷◌, Some, length, min}
+use Rattle.std.proofs.Common.{slice_get}
 use Rattle.std.specs.Int.{div_ceil}
 use Rattle.aeth_base.specs.declared.ids.Channel.{Channel}
-use Rattle.aeth_server.specs.ChannelShape.{IsShapeInRange, shape_of}
-use Rattle.aeth_server.specs.Shape.{Shape, channel_latency}
-use Rattle.aeth_server.specs.declared.shape.ChannelShape.{ChannelShape}
+use Rattle.aeth_server.specs.{ChannelShape.IsShapeInRange, ChannelShape.shape_of, Shape.Shape}
+use Rattle.aeth_server.specs.{Shape.channel_latency, declared.shape.ChannelShape.ChannelShape}
 use Rattle.aeth_chain.specs.Limits.{max_chain_items, max_work}
-use Rattle.aeth_chain.specs.declared.bound.ChainBound.{ChainBound}
-use Rattle.aeth_chain.specs.declared.item.ChainItem.{ChainItem}
+use Rattle.aeth_chain.specs.declared.{bound.ChainBound.ChainBound, item.ChainItem.ChainItem}
 
 -- A channel of a chain: which it is, its shape, and how long the core at its end works on each word.
 pub record Leg : Type 0 where

@@ -4,11 +4,9 @@
 --   IsDueInChain, HasLandedBy      a word is due by a cycle; there is its landing by then
 --   AreDueWordsLanded      the promise, of a run of some legs
 -- This project's own.
-use Rattle.std.specs.Prelude.{ℕ, ◌*◌, ◌-◌, ◌<◌, ◌≤◌, ◌≡◌, All, List, Some, length, slice_get}
-use Rattle.aeth_server.specs.Landing.{KeepsDelay}
-use Rattle.aeth_server.specs.PrivateServer.{PrivateServer}
-use Rattle.aeth_trace.specs.declared.receivers.PullRow.{PullRow}
-use Rattle.aeth_trace.specs.declared.words.WordRow.{WordRow}
+use Rattle.std.proofs.Common.{ℕ, ◌*◌, ◌-◌, ◌<◌, ◌≤◌, ◌≡◌, All, List, Some, length, slice_get}
+use Rattle.aeth_server.specs.{Landing.KeepsDelay, PrivateServer.PrivateServer}
+use Rattle.aeth_trace.specs.declared.{receivers.PullRow.PullRow, words.WordRow.WordRow}
 use Rattle.aeth_report.specs.declared.log.Landing.{Landing}
 use Rattle.aeth_chain.specs.Chain.{Leg, chain_rate}
 use Rattle.aeth_chain.specs.ChainRun.{chain_log, chain_time, first_offers, servers_along}

@@ -7,25 +7,20 @@
 --   last_channel, told, landings_on      the last channel of a chain, what landings tell, and those of a
 --                                        channel in a log
 -- This project's own.
-use Rattle.std.specs.Prelude.{ℕ, ◌==◌, ◌<◌, ◌≡◌, List, [], ◌∷◌, ◌++◌, Some, filter, flat_map, length}
-use Rattle.std.specs.Prelude.{map, slice_get}
+use Rattle.std.proofs.Common.{ℕ, ◌==◌, ◌<◌, ◌≡◌, List, [], ◌∷◌, ◌++◌, Some, filter, flat_map}
+use Rattle.std.proofs.Common.{length, map, slice_get}
 use Rattle.std.specs.List.{range_with_len}
-use Rattle.aeth_base.specs.declared.ids.Channel.{Channel}
-use Rattle.aeth_base.specs.declared.ids.Side.TheVariants.{Fwd}
-use Rattle.aeth_base.specs.declared.ids.UseId.{UseId}
+use Rattle.aeth_base.specs.declared.ids.{Channel.Channel, Side.TheVariants.Fwd, UseId.UseId}
 use Rattle.aeth_server.specs.declared.shape.ChannelShape.{ChannelShape}
 use Rattle.aeth_app.specs.App.{IsAppOf}
 use Rattle.aeth_group.specs.Members.{groups_of}
 use Rattle.aeth_ni.specs.declared.row.ChannelRow.{ChannelRow}
-use Rattle.aeth_trace.specs.declared.words.WordRow.{WordRow}
-use Rattle.aeth_trace.specs.Channels.{is_channel}
-use Rattle.aeth_report.specs.declared.log.Landing.{Landing}
-use Rattle.aeth_report.specs.Log.{LogData}
+use Rattle.aeth_trace.specs.{declared.words.WordRow.WordRow, Channels.is_channel}
+use Rattle.aeth_report.specs.{declared.log.Landing.Landing, Log.LogData}
 use Rattle.aeth_plan.specs.Design.{IsDesign}
 use Rattle.aeth_tables.specs.Tables.{TablesData, tables_of}
 use Rattle.aeth_accepted.specs.Inputs.{Inputs}
-use Rattle.aeth_chain.specs.declared.item.ChainItem.{ChainItem}
-use Rattle.aeth_chain.specs.declared.passing.Offer.{Offer}
+use Rattle.aeth_chain.specs.declared.{item.ChainItem.ChainItem, passing.Offer.Offer}
 
 -- An offer on a channel as a row of words.
 abbrev pub row_of : Channel → Offer → WordRow

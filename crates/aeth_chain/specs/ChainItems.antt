@@ -7,28 +7,24 @@
 --   items_of      the items, or the first broken rule
 --   AreItemsOf      what holds of the items
 -- This project's own.
-use Rattle.std.specs.Prelude.{ℕ, ◌≡◌, ◌≤◌, ◌<◌, ◌+◌, ◌-◌, ◌==◌, ◌||◌, Bool, true, not, All, List, []}
-use Rattle.std.specs.Prelude.{◌∷◌, Option, Result, Ok, Err, if◌then◌else◌, length, map, nat_lt}
-use Rattle.std.specs.Prelude.{nat_eq, option_map, position, slice_get, take, unwrap_or}
-use Rattle.std.specs.List.{list_any, slice_index_or}
-use Rattle.std.specs.Option.{option_eq}
-use Rattle.std.specs.Str.{bytes_eq}
+use Rattle.std.proofs.Common.{ℕ, ◌≡◌, ◌≤◌, ◌<◌, ◌+◌, ◌-◌, ◌==◌, ◌||◌, Bool, true, not, All, List}
+use Rattle.std.proofs.Common.{[], ◌∷◌, Option, Result, Ok, Err, if◌then◌else◌, length, map, nat_lt}
+use Rattle.std.proofs.Common.{nat_eq, option_map, position, slice_get, take, unwrap_or}
+use Rattle.std.specs.{List.list_any, List.slice_index_or, Option.option_eq, Str.bytes_eq}
 use Rattle.aeth_base.specs.Faults.{BrokenRule}
-use Rattle.aeth_base.specs.declared.ids.Channel.{Channel}
-use Rattle.aeth_base.specs.declared.ids.Side.TheVariants.{Fwd}
+use Rattle.aeth_base.specs.declared.ids.{Channel.Channel, Side.TheVariants.Fwd}
 use Rattle.aeth_app.specs.App.{AppData, has_connection}
 use Rattle.aeth_app.specs.Connections.{connection_names, receiver, sender}
 use Rattle.aeth_document.specs.Chain.{◌>>=◌}
 use Rattle.aeth_trace.specs.Channels.{is_channel}
-use Rattle.aeth_chain.specs.Chain.{AreDistinct}
-use Rattle.aeth_chain.specs.Limits.{max_chain_items}
-use Rattle.aeth_chain.specs.declared.item.ChainItem.{ChainItem}
-use Rattle.aeth_chain.specs.Fault.{broken_at}
-use Rattle.aeth_chain.specs.ItemNames.{AreWorks}
-use Rattle.aeth_chain.specs.declared.fault.ItemRule.{ItemRule}
-use Rattle.aeth_chain.specs.declared.fault.ItemRule.TheVariants.{NotInUse, NotJoined}
-use Rattle.aeth_chain.specs.declared.fault.ItemRule.TheVariants.{Repeated, UnknownConnection}
-use Rattle.aeth_chain.specs.declared.names.ItemName.{ItemName}
+use Rattle.aeth_chain.specs.{Chain.AreDistinct, Limits.max_chain_items}
+use Rattle.aeth_chain.specs.{declared.item.ChainItem.ChainItem, Fault.broken_at, ItemNames.AreWorks}
+use Rattle.aeth_chain.specs.{declared.fault.ItemRule.ItemRule}
+use Rattle.aeth_chain.specs.{declared.fault.ItemRule.TheVariants.NotInUse}
+use Rattle.aeth_chain.specs.{declared.fault.ItemRule.TheVariants.NotJoined}
+use Rattle.aeth_chain.specs.{declared.fault.ItemRule.TheVariants.Repeated}
+use Rattle.aeth_chain.specs.{declared.fault.ItemRule.TheVariants.UnknownConnection}
+use Rattle.aeth_chain.specs.{declared.names.ItemName.ItemName}
 
 -- The connection of a name, and their number where none has it.
 abbrev pub conn_of : AppData → List ℕ → ℕ

@@ -6,18 +6,14 @@
 --   chain_time, landing_on, landings_along      when words are due, and the landings on the last channel
 --   ChainData, chain_log      the log
 -- This project's own.
-use Rattle.std.specs.Prelude.{ℕ, ◌+◌, ◌-◌, List, [], ◌∷◌, filter, length, map, nat_lt, slice_index}
+use Rattle.std.proofs.Common.{ℕ, ◌+◌, ◌-◌, List, [], ◌∷◌, filter, length, map, nat_lt, slice_index}
 use Rattle.std.specs.List.{range_with_len}
 use Rattle.aeth_base.specs.Limits.{max_path_delay}
-use Rattle.aeth_server.specs.FinishTimes.{due_cycle, finish_time}
-use Rattle.aeth_server.specs.Landing.{landing_cycle}
-use Rattle.aeth_server.specs.PrivateServer.{PrivateServer, landed}
-use Rattle.aeth_server.specs.Shape.{buffer_of}
-use Rattle.aeth_server.specs.WordCycles.{taking_cycle}
-use Rattle.aeth_trace.specs.Receivers.{pull_at}
-use Rattle.aeth_trace.specs.Words.{words_on}
-use Rattle.aeth_trace.specs.declared.receivers.PullRow.{PullRow}
-use Rattle.aeth_trace.specs.declared.words.WordRow.{WordRow}
+use Rattle.aeth_server.specs.{FinishTimes.due_cycle, FinishTimes.finish_time, Landing.landing_cycle}
+use Rattle.aeth_server.specs.{PrivateServer.PrivateServer, PrivateServer.landed, Shape.buffer_of}
+use Rattle.aeth_server.specs.{WordCycles.taking_cycle}
+use Rattle.aeth_trace.specs.{Receivers.pull_at, Words.words_on, declared.receivers.PullRow.PullRow}
+use Rattle.aeth_trace.specs.{declared.words.WordRow.WordRow}
 use Rattle.aeth_report.specs.declared.log.Landing.{Landing}
 use Rattle.aeth_chain.specs.Chain.{Leg, bound_of, chain_rate, size_of}
 use Rattle.aeth_chain.specs.declared.passing.Offer.{Offer}

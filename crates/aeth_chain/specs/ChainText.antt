@@ -3,14 +3,13 @@
 --   bound_line, left_line      the first line, and that of the words that are left
 --   chain_lines, chain_text      all lines, and the text
 -- This project's own.
-use Rattle.std.specs.Prelude.{ℕ, List, [], ◌∷◌, ◌++◌, codes, decimal, map, slice_get, unwrap_or}
+use Rattle.std.proofs.Common.{ℕ, List, [], ◌∷◌, ◌++◌, codes, decimal, map, slice_get, unwrap_or}
 use Rattle.std.specs.List.{enumerate_from}
 use Rattle.aeth_text.specs.Spelling.{text_of_lines}
 use Rattle.aeth_app.specs.App.{AppData}
 use Rattle.aeth_trace.specs.Switches.{use_names}
 use Rattle.aeth_report.specs.LogText.{landing_line, line_of}
-use Rattle.aeth_chain.specs.ChainRun.{ChainData}
-use Rattle.aeth_chain.specs.declared.bound.ChainBound.{ChainBound}
+use Rattle.aeth_chain.specs.{ChainRun.ChainData, declared.bound.ChainBound.ChainBound}
 
 -- `chain 1 USE RATE LATENCY`.
 unfoldable pub bound_line : List ℕ → ChainBound → List ℕ

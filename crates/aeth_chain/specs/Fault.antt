@@ -1,14 +1,13 @@
 -- The rules that the items of a chain break, as a refusal shows them. Places are items, from 1; the value
 -- is the name of the item's connection.
 -- This project's own.
-use Rattle.std.specs.Prelude.{ℕ, List, Option, Some, None, codes}
-use Rattle.aeth_base.specs.Faults.{BrokenRule}
-use Rattle.aeth_base.specs.declared.shown.Shown.TheVariants.{Word}
+use Rattle.std.proofs.Common.{ℕ, List, Option, Some, None, codes}
+use Rattle.aeth_base.specs.{Faults.BrokenRule, declared.shown.Shown.TheVariants.Word}
 use Rattle.aeth_chain.specs.declared.fault.ChainFault.{ChainFault}
 use Rattle.aeth_chain.specs.declared.fault.ChainFault.TheVariants.{Broken, Memory}
 use Rattle.aeth_chain.specs.declared.fault.ItemRule.{ItemRule}
-use Rattle.aeth_chain.specs.declared.fault.ItemRule.TheVariants.{NotInUse, NotJoined}
-use Rattle.aeth_chain.specs.declared.fault.ItemRule.TheVariants.{Repeated, UnknownConnection}
+use Rattle.aeth_chain.specs.declared.fault.ItemRule.TheVariants.{NotInUse, NotJoined, Repeated}
+use Rattle.aeth_chain.specs.declared.fault.ItemRule.TheVariants.{UnknownConnection}
 
 -- The number of a rule, and its name.
 abbrev pub rule_number : ItemRule → ℕ

@@ -5,13 +5,11 @@
 --   item_in, items_in, item_names_of      an item, those of some pieces of a word, and those of a word
 --   AreWorks, AreItemNames      what holds of the items that a word tells
 -- This project's own.
-use Rattle.std.specs.Prelude.{ℕ, ◌≡◌, ◌≤◌, ◌==◌, ◌&&◌, Bool, true, false, List, [], ◌∷◌, Option, Some}
-use Rattle.std.specs.Prelude.{None, length, map, nat_le, option_map}
-use Rattle.aeth_base.specs.Name.{name_of}
-use Rattle.aeth_base.specs.declared.ids.Side.{Side}
-use Rattle.aeth_text.specs.Fields.{number_in, side_in}
-use Rattle.aeth_text.specs.Grammar.{both, kept, parts}
-use Rattle.aeth_text.specs.Limits.{comma}
+use Rattle.std.proofs.Common.{ℕ, ◌≡◌, ◌≤◌, ◌==◌, ◌&&◌, Bool, true, false, List, [], ◌∷◌, Option}
+use Rattle.std.proofs.Common.{Some, None, length, map, nat_le, option_map}
+use Rattle.aeth_base.specs.{Name.name_of, declared.ids.Side.Side}
+use Rattle.aeth_text.specs.{Fields.number_in, Fields.side_in, Grammar.both, Grammar.kept}
+use Rattle.aeth_text.specs.{Grammar.parts, Limits.comma}
 use Rattle.aeth_chain.specs.Limits.{colon, max_chain_items, max_work}
 use Rattle.aeth_chain.specs.declared.names.ItemName.{ItemName}
 

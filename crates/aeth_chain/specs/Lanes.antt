@@ -5,10 +5,9 @@
 --   run_in, legs_in, IsRunning      a lane in a run, and all legs of a chain
 --
 -- This project's own.
-use Rattle.std.specs.Prelude.{ℕ, ◌+◌, ◌-◌, ◌*◌, ◌<◌, ◌≤◌, ◌≡◌, All, List, if◌then◌else◌, length, map}
-use Rattle.std.specs.Prelude.{nat_le, slice_index}
-use Rattle.std.specs.List.{range_with_len}
-use Rattle.std.specs.List.Sorted.{IsNonDecreasing}
+use Rattle.std.proofs.Common.{ℕ, ◌+◌, ◌-◌, ◌*◌, ◌<◌, ◌≤◌, ◌≡◌, All, List, if◌then◌else◌, length}
+use Rattle.std.proofs.Common.{map, nat_le, slice_index}
+use Rattle.std.specs.List.{range_with_len, Sorted.IsNonDecreasing}
 use Rattle.aeth_base.specs.Limits.{max_cycles, max_slots, words_per_flit}
 use Rattle.aeth_server.specs.ChannelShape.{IsShapeInRange}
 use Rattle.aeth_server.specs.PrivateServer.{PrivateServer, taken}
@@ -17,9 +16,7 @@ use Rattle.aeth_trace.specs.Limits.{max_rows}
 use Rattle.aeth_chain.specs.Chain.{IsChain, Leg, bound_of, leg_of, legs_of}
 use Rattle.aeth_chain.specs.ChainRun.{LegRun, cycles_of, server_on}
 use Rattle.aeth_chain.specs.Limits.{max_chain_items, max_leg_latency, max_work}
-use Rattle.aeth_chain.specs.declared.lane.Lane.{Lane}
-use Rattle.aeth_chain.specs.declared.passing.Offer.{Offer}
-use Rattle.aeth_chain.specs.declared.run.Running.{Running}
+use Rattle.aeth_chain.specs.declared.{lane.Lane.Lane, passing.Offer.Offer, run.Running.Running}
 
 -- The leg of a lane, and its private server.
 abbrev pub leg_in : Lane → Leg

@@ -1,6 +1,6 @@
 -- The numbers of the rules on chains.
 -- This project's own.
-use Rattle.std.specs.Prelude.{ℕ, ◌+◌}
+use Rattle.std.proofs.Common.{ℕ, ◌+◌}
 use Rattle.aeth_base.specs.Limits.{max_path_delay, max_receiver_delay, max_slots}
 
 -- A chain has at most so many channels.

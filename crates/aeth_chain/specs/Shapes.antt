@@ -1,15 +1,13 @@
 -- The shapes of the channels of a chain, as the tables of a use case have them.
 -- This project's own.
-use Rattle.std.specs.Prelude.{◌≡◌, ℕ, List, Option, Some, position, slice_get}
-use Rattle.std.specs.List.{filter_map}
-use Rattle.std.specs.Option.{option_and_then}
+use Rattle.std.proofs.Common.{◌≡◌, ℕ, List, Option, Some, position, slice_get}
+use Rattle.std.specs.{List.filter_map, Option.option_and_then}
 use Rattle.aeth_base.specs.declared.ids.Channel.{Channel}
 use Rattle.aeth_server.specs.declared.shape.ChannelShape.{ChannelShape}
 use Rattle.aeth_ni.specs.declared.row.ChannelRow.{ChannelRow}
 use Rattle.aeth_tables.specs.Tables.{TablesData}
 use Rattle.aeth_trace.specs.Channels.{is_channel}
-use Rattle.aeth_chain.specs.ChainInputs.{IsShapeIn}
-use Rattle.aeth_chain.specs.declared.item.ChainItem.{ChainItem}
+use Rattle.aeth_chain.specs.{ChainInputs.IsShapeIn, declared.item.ChainItem.ChainItem}
 
 -- The place of a channel's row, and the shape beside it.
 abbrev pub place_in : List ChannelRow → Channel → Option ℕ

@@ -1,20 +1,16 @@
 -- The verdict accepts a plan exactly where the plan is accepted.
-use Rattle.std.proofs.Common.{◌≡◌, ◌∙◌, ◌↔◌, ℕ, Option, Some, None, refl, ap, sym}
-use Rattle.std.specs.Prelude.{IsTrue, unwrap_or}
-use Rattle.std.specs.Bool.{Decides}
-use Rattle.std.specs.Option.{option_or}
+use Rattle.std.proofs.Common.{◌≡◌, ◌∙◌, ◌↔◌, ℕ, Option, Some, None, refl, ap, sym, IsTrue}
+use Rattle.std.proofs.Common.{unwrap_or}
 use Rattle.std.proofs.lemmas.Option.{none-some, same_Some}
-use Rattle.aeth_base.specs.declared.ids.Side.{Side}
-use Rattle.aeth_base.specs.declared.ids.Unit.{Unit as GroupUnit}
+use Rattle.std.specs.{Bool.Decides, Option.option_or}
+use Rattle.aeth_base.specs.declared.ids.{Side.Side, Unit.Unit as GroupUnit}
 use Rattle.aeth_chip.specs.Chip.{ChipData, IsChip}
 use Rattle.aeth_app.specs.App.{AppData}
-use Rattle.aeth_group.specs.Conflict.{Conflict}
-use Rattle.aeth_group.specs.Members.{GroupsData, is_member, units_of}
-use Rattle.aeth_group.specs.declared.grant.Grant.{Grant}
-use Rattle.aeth_plan.specs.Layout.{first_grant_line, first_seat_line}
-use Rattle.aeth_plan.specs.Plan.{PlanData}
-use Rattle.aeth_plan.specs.Accepted.{HasSlots, IsAccepted, IsOnPath}
-use Rattle.aeth_plan.specs.Seated.{IsOneSeat}
+use Rattle.aeth_group.specs.{Conflict.Conflict, Members.GroupsData, Members.is_member}
+use Rattle.aeth_group.specs.{Members.units_of, declared.grant.Grant.Grant}
+use Rattle.aeth_plan.specs.{Layout.first_grant_line, Layout.first_seat_line, Plan.PlanData}
+use Rattle.aeth_plan.specs.{Accepted.HasSlots, Accepted.IsAccepted, Accepted.IsOnPath}
+use Rattle.aeth_plan.specs.{Seated.IsOneSeat}
 use Rattle.aeth_check.specs.declared.verdict.Verdict.{Verdict}
 use Rattle.aeth_check.specs.declared.verdict.Verdict.TheVariants.{Accepted, Missing, Broken}
 use Rattle.aeth_check.specs.Meetings.{conflicts}

@@ -1,33 +1,24 @@
 -- The rules on units, paths and slots, as tests and as facts.
 use Rattle.std.proofs.Common.{◌≡◌, ◌∙◌, ℕ, Bool, true, false, cond, eqb, List, [], ◌∷◌, Option}
-use Rattle.std.proofs.Common.{Some, None, Contains, slice_get, refl, sym, ap, inl, inr}
+use Rattle.std.proofs.Common.{Some, None, Contains, slice_get, refl, sym, ap, inl, inr, eq-eqb}
+use Rattle.std.proofs.Common.{eqb-true}
+use Rattle.std.proofs.lemmas.{Bool.and_from, Bool.and_parts, Bool.false≢true, Option.none-some}
 use Rattle.std.specs.Bool.{Decides}
-use Rattle.std.proofs.lemmas.Bool.{and_from, and_parts, eq-eqb, eqb-true, false≢true}
-use Rattle.std.proofs.lemmas.Option.{none-some}
-use Rattle.aeth_base.specs.declared.ids.LinkId.{LinkId}
-use Rattle.aeth_base.specs.declared.ids.NiId.{NiId}
-use Rattle.aeth_base.specs.declared.ids.Side.{Side}
-use Rattle.aeth_base.specs.declared.ids.Side.TheVariants.{Fwd, Back}
-use Rattle.aeth_base.specs.declared.ids.Unit.{Unit as GroupUnit}
-use Rattle.aeth_slots.proofs.ChoiceLemmas.{is_suitable-true, true-is_suitable}
-use Rattle.aeth_base.proofs.Members.{Contains-cases, Contains-here, Contains-nil, Contains-there}
-use Rattle.aeth_chip.specs.Chip.{ChipData, IsChip}
-use Rattle.aeth_chip.specs.Paths.{IsAdmissible}
-use Rattle.aeth_app.specs.App.{AppData}
-use Rattle.aeth_app.specs.declared.connection.Connection.{Connection}
-use Rattle.aeth_app.specs.Connections.{receiver, sender}
-use Rattle.aeth_group.specs.declared.grant.Grant.{Grant}
-use Rattle.aeth_group.specs.declared.grant.SeatLine.{SeatLine}
-use Rattle.aeth_group.proofs.ListLemmas.{any_from_passes, passes_from_any}
-use Rattle.aeth_plan.specs.Plan.{PlanData}
-use Rattle.aeth_plan.specs.Accepted.{HasGrant, HasSlots, IsOnPath}
-use Rattle.aeth_plan.specs.UnitGrants.{is_for}
-use Rattle.aeth_plan.specs.Seated.{ni_of}
-use Rattle.aeth_check.specs.Channels.{first_lacking, fits_path, fits_slots}
-use Rattle.aeth_check.specs.Channels.{has_side, lacking_side, leads}
-use Rattle.aeth_check.specs.Channels.{side_or}
+use Rattle.aeth_base.specs.declared.ids.{LinkId.LinkId, NiId.NiId, Side.Side, Side.TheVariants.Fwd}
+use Rattle.aeth_base.specs.declared.ids.{Side.TheVariants.Back, Unit.Unit as GroupUnit}
 use Rattle.aeth_base.specs.Sides.{same_side}
+use Rattle.aeth_base.proofs.Members.{Contains-cases, Contains-here, Contains-nil, Contains-there}
 use Rattle.aeth_base.proofs.SideLemmas.{same_side-is, same_side-itself}
+use Rattle.aeth_slots.proofs.ChoiceLemmas.{is_suitable-true, true-is_suitable}
+use Rattle.aeth_chip.specs.{Chip.ChipData, Chip.IsChip, Paths.IsAdmissible}
+use Rattle.aeth_app.specs.{App.AppData, declared.connection.Connection.Connection}
+use Rattle.aeth_app.specs.{Connections.receiver, Connections.sender}
+use Rattle.aeth_group.specs.declared.grant.{Grant.Grant, SeatLine.SeatLine}
+use Rattle.aeth_group.proofs.ListLemmas.{any_from_passes, passes_from_any}
+use Rattle.aeth_plan.specs.{Plan.PlanData, Accepted.HasGrant, Accepted.HasSlots, Accepted.IsOnPath}
+use Rattle.aeth_plan.specs.{UnitGrants.is_for, Seated.ni_of}
+use Rattle.aeth_check.specs.Channels.{first_lacking, fits_path, fits_slots, has_side, lacking_side}
+use Rattle.aeth_check.specs.Channels.{leads, side_or}
 use Rattle.aeth_check.proofs.RouteLaws.{is_admissible-Decides}
 
 -- ---- Units

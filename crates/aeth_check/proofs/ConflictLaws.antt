@@ -1,21 +1,16 @@
 -- Two grants pass the test of conflicts exactly where they conflict.
-use Rattle.std.proofs.Common.{◌≡◌, ◌∙◌, ◌+◌, ◌%◌, ◌&&◌, ℕ, zero, suc, Bool, true}
-use Rattle.std.proofs.Common.{List, [], ◌∷◌, Contains, Some, length, slice_get, refl, sym, ap, inl}
-use Rattle.std.proofs.Common.{inr, arith, zero-add}
-use Rattle.std.specs.Bool.{Decides}
-use Rattle.std.specs.List.{list_any, range_with_len}
+use Rattle.std.proofs.Common.{◌≡◌, ◌∙◌, ◌+◌, ◌%◌, ◌&&◌, ℕ, zero, suc, Bool, true, List, [], ◌∷◌}
+use Rattle.std.proofs.Common.{Contains, Some, length, slice_get, refl, sym, ap, inl, inr, arith}
+use Rattle.std.proofs.Common.{zero-add}
 use Rattle.std.proofs.lemmas.Bool.{and_from, and_parts, false≢true, or_cases, or_left, or_right}
 use Rattle.std.proofs.lemmas.Option.{none-some, same_Some}
-use Rattle.aeth_base.specs.declared.ids.LinkId.{LinkId}
-use Rattle.aeth_chip.specs.Paths.{delay_of, offset}
-use Rattle.aeth_chip.specs.declared.node.Link.{Link}
+use Rattle.std.specs.{Bool.Decides, List.list_any, List.range_with_len}
+use Rattle.aeth_base.{specs.declared.ids.LinkId.LinkId, proofs.Ranges.Contains-range}
+use Rattle.aeth_chip.specs.{Paths.delay_of, Paths.offset, declared.node.Link.Link}
 use Rattle.aeth_chip.proofs.OffsetLemmas.{offset-behind}
 use Rattle.aeth_slots.specs.SlotSet.{Slots}
-use Rattle.aeth_base.proofs.Ranges.{Contains-range}
-use Rattle.aeth_group.specs.Conflict.{Conflict}
-use Rattle.aeth_group.specs.Members.{GroupsData, has_unit}
-use Rattle.aeth_group.specs.Occupation.{holds_in}
-use Rattle.aeth_group.specs.declared.grant.Grant.{Grant}
+use Rattle.aeth_group.specs.{Conflict.Conflict, Members.GroupsData, Members.has_unit}
+use Rattle.aeth_group.specs.{Occupation.holds_in, declared.grant.Grant.Grant}
 use Rattle.aeth_group.proofs.ConflictLemmas.{conflict-sym, conflict_from_held, held_from_conflict}
 use Rattle.aeth_group.proofs.ListLemmas.{any_from_passes, passes_from_any, same_tests}
 use Rattle.aeth_group.proofs.OccupationLemmas.{occupies-Decides}

@@ -1,13 +1,12 @@
 -- No line and no pair passes a test exactly where none of the items does.
-use Rattle.std.proofs.Common.{◌≡◌, ◌∙◌, ◌<◌, ℕ, zero, suc, Bool, true, false, cond, List, []}
-use Rattle.std.proofs.Common.{◌∷◌, Option, Some, None, Contains, slice_get, refl, sym, ap, inl, inr}
+use Rattle.std.proofs.Common.{◌≡◌, ◌∙◌, ◌<◌, ℕ, zero, suc, Bool, true, false, cond, List, [], ◌∷◌}
+use Rattle.std.proofs.Common.{Option, Some, None, Contains, slice_get, refl, sym, ap, inl, inr}
 use Rattle.std.proofs.Common.{arith, not, ◌↔◌}
-use Rattle.std.specs.Bool.{Decides}
 use Rattle.std.proofs.lemmas.Bool.{cond-false, false_from_ne_true, false≢true, not-false}
 use Rattle.std.proofs.lemmas.Option.{none-some, same_Some}
+use Rattle.std.specs.Bool.{Decides}
 use Rattle.aeth_base.proofs.Members.{Contains-cases, Contains-here, Contains-nil}
-use Rattle.aeth_base.proofs.Members.{Contains-slice_get}
-use Rattle.aeth_base.proofs.Members.{Contains-there, slice_get-Contains}
+use Rattle.aeth_base.proofs.Members.{Contains-slice_get, Contains-there, slice_get-Contains}
 use Rattle.aeth_text.specs.Order.{line_after}
 use Rattle.aeth_check.specs.Firsts.{first_line, first_pair, pair_or}
 use Rattle.aeth_plan.specs.Accepted.{NoTwo}

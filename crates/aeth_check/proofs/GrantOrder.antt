@@ -1,8 +1,7 @@
 -- The order of grants: a rising list is ordered at all places.
-use Rattle.std.proofs.Common.{◌≡◌, ◌∙◌, ◌<◌, ℕ, zero, suc, true, false, eqb, List, []}
-use Rattle.std.proofs.Common.{◌∷◌, Some, slice_get, sym, ap, arith}
-use Rattle.std.proofs.lemmas.Bool.{cond-true, eq-eqb}
-use Rattle.std.proofs.lemmas.Option.{none-some, same_Some}
+use Rattle.std.proofs.Common.{◌≡◌, ◌∙◌, ◌<◌, ℕ, zero, suc, true, false, eqb, List, [], ◌∷◌, Some}
+use Rattle.std.proofs.Common.{slice_get, sym, ap, arith, eq-eqb}
+use Rattle.std.proofs.lemmas.{Bool.cond-true, Option.none-some, Option.same_Some}
 use Rattle.aeth_group.specs.declared.grant.Grant.{Grant}
 use Rattle.aeth_text.specs.Order.{Rises, RisesAfter}
 use Rattle.aeth_plan.specs.Plan.{grant_before, side_before}

@@ -1,20 +1,17 @@
 -- A search by halves among grants in order.
-use Rattle.std.proofs.Common.{◌≡◌, ◌∙◌, ◌<◌, ◌≤◌, ◌+◌, ℕ, Bool, true, false, List, Some}
-use Rattle.std.proofs.Common.{eqb, length, slice_get, refl, sym, ap, inl, inr, arith}
-use Rattle.std.proofs.lemmas.Bool.{and_parts, cases_lt, eqb-true, false_from_ne_true}
-use Rattle.std.proofs.lemmas.Bool.{false≢true}
+use Rattle.std.proofs.Common.{◌≡◌, ◌∙◌, ◌<◌, ◌≤◌, ◌+◌, ℕ, Bool, true, false, List, Some, eqb}
+use Rattle.std.proofs.Common.{length, slice_get, refl, sym, ap, inl, inr, arith, eqb-true}
+use Rattle.std.proofs.lemmas.Bool.{and_parts, cases_lt, false_from_ne_true, false≢true}
 use Rattle.std.proofs.lemmas.Option.{same_Some, slice_get_within}
-use Rattle.aeth_base.specs.declared.ids.Side.{Side}
-use Rattle.aeth_base.specs.declared.ids.Unit.{Unit as GroupUnit}
+use Rattle.aeth_base.specs.declared.ids.{Side.Side, Unit.Unit as GroupUnit}
+use Rattle.aeth_base.proofs.SideLemmas.{same_side-is}
+use Rattle.aeth_base.proofs.Members.{Contains-slice_get, slice_get-Contains}
 use Rattle.aeth_group.specs.declared.grant.Grant.{Grant}
 use Rattle.aeth_group.proofs.ListLemmas.{any_from_passes, passes_from_any}
 use Rattle.aeth_text.specs.Order.{Rises}
-use Rattle.aeth_plan.specs.Plan.{grant_before}
+use Rattle.aeth_plan.{specs.Plan.grant_before, proofs.MadePlans.before_trans}
+use Rattle.aeth_plan.{specs.UnitGrants.is_before, specs.UnitGrants.is_for, specs.UnitGrants.sought}
 use Rattle.aeth_check.specs.Channels.{has_side}
-use Rattle.aeth_base.proofs.SideLemmas.{same_side-is}
-use Rattle.aeth_base.proofs.Members.{Contains-slice_get, slice_get-Contains}
-use Rattle.aeth_plan.proofs.MadePlans.{before_trans}
-use Rattle.aeth_plan.specs.UnitGrants.{is_before, is_for, sought}
 use Rattle.aeth_check.proofs.GrantOrder.{not_before, rises_at}
 
 -- A grant for a side of a unit has its connection, group and side.

@@ -1,16 +1,15 @@
 -- Masks that hold grants.
-use Rattle.std.proofs.Common.{◌≡◌, ◌∙◌, ◌+◌, ◌*◌, ◌&&◌, ◌||◌, ℕ, Bool, true, false, cond, List}
-use Rattle.std.proofs.Common.{[], ◌∷◌, All, Some, length, ltb, eqb, refl, sym, ap, inl, inr}
+use Rattle.std.proofs.Common.{◌≡◌, ◌∙◌, ◌+◌, ◌*◌, ◌&&◌, ◌||◌, ℕ, Bool, true, false, cond, List, []}
+use Rattle.std.proofs.Common.{◌∷◌, All, Some, length, ltb, eqb, refl, sym, ap, inl, inr, le-ltb}
+use Rattle.std.proofs.Common.{lt-ltb}
+use Rattle.std.proofs.lemmas.{Bool.cases_lt, Option.slice_get-get_or, Option.slice_get_past}
 use Rattle.std.specs.List.{range_with_len}
-use Rattle.std.proofs.lemmas.Bool.{cases_lt, le-ltb, lt-ltb}
-use Rattle.std.proofs.lemmas.Option.{slice_get-get_or, slice_get_past}
 use Rattle.aeth_base.proofs.Filters.{filter-none}
 use Rattle.aeth_slots.specs.SlotSet.{Slots}
 use Rattle.aeth_chip.specs.Chip.{ChipData}
-use Rattle.aeth_group.specs.Members.{GroupsData, group_at, has_unit, use_has}
-use Rattle.aeth_group.specs.Occupation.{enters}
-use Rattle.aeth_group.specs.declared.grant.Grant.{Grant}
-use Rattle.aeth_group.specs.Tables.{Changes, hits_uses}
+use Rattle.aeth_group.specs.{Members.GroupsData, Members.group_at, Members.has_unit}
+use Rattle.aeth_group.specs.{Members.use_has, Occupation.enters, declared.grant.Grant.Grant}
+use Rattle.aeth_group.specs.{Tables.Changes, Tables.hits_uses}
 use Rattle.aeth_group.proofs.TableLemmas.{table-same}
 use Rattle.aeth_check.specs.Masks.{Holds, is_held}
 

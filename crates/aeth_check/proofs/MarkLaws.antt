@@ -1,7 +1,7 @@
 -- Seats that are apart, by marks at their places.
 use Rattle.std.proofs.Common.{◌≡◌, ◌∙◌, ◌+◌, ◌-◌, ◌*◌, ◌<◌, ◌≤◌, ℕ, Bool, true, false, List, []}
-use Rattle.std.proofs.Common.{◌∷◌, Some, None, drop, get_or, length, set}
-use Rattle.std.proofs.Common.{slice_get, sym, ap, subst, inl, inr}
+use Rattle.std.proofs.Common.{◌∷◌, Some, None, drop, get_or, length, set, slice_get, sym, ap, subst}
+use Rattle.std.proofs.Common.{inl, inr}
 use Rattle.std.proofs.lemmas.Bool.{cases_eq, false_from_ne_true, false≢true}
 use Rattle.std.proofs.lemmas.Option.{same_Some}
 use Rattle.aeth_base.proofs.Lists.{slice_get-slice_set_other, slice_get-slice_set_same}
@@ -11,9 +11,8 @@ use Rattle.aeth_group.specs.declared.grant.SeatLine.{SeatLine}
 use Rattle.aeth_text.specs.Order.{line_after}
 use Rattle.aeth_check.specs.Firsts.{first_line, first_pair, pair_or}
 use Rattle.aeth_check.specs.Seats.{HasMarks, is_one_seat, seat_place}
-use Rattle.aeth_check.proofs.FirstLaws.{no_line}
-use Rattle.aeth_check.proofs.MeetingLaws.{drop_back_or}
-use Rattle.aeth_check.proofs.SeatLaws.{is_one_seat-Decides}
+use Rattle.aeth_check.proofs.{FirstLaws.no_line, MeetingLaws.drop_back_or}
+use Rattle.aeth_check.proofs.{SeatLaws.is_one_seat-Decides}
 
 -- What stands where there is no seat.
 abbrev pub no_line_of_seat : SeatLine

@@ -1,24 +1,19 @@
 -- Laws of meetings: slots that a mask and turned starts have in common, and paths link by link.
-use Rattle.std.proofs.Common.{◌≡◌, ◌∙◌, ◌<◌, ◌+◌, ◌*◌, ◌%◌, ◌||◌, ℕ, Bool, true, false}
-use Rattle.std.proofs.Common.{List, [], ◌∷◌, Contains, length, Some, slice_get, drop, refl, sym, ap}
-use Rattle.std.proofs.Common.{arith, get_or}
-use Rattle.std.specs.Prelude.{nat_lt}
+use Rattle.std.proofs.Common.{◌≡◌, ◌∙◌, ◌<◌, ◌+◌, ◌*◌, ◌%◌, ◌||◌, ℕ, Bool, true, false, List, []}
+use Rattle.std.proofs.Common.{◌∷◌, Contains, length, Some, slice_get, drop, refl, sym, ap, arith}
+use Rattle.std.proofs.Common.{get_or, nat_lt, lt-ltb, ltb-true}
+use Rattle.std.proofs.lemmas.{Nat.mod_below, Option.same_Some, Option.slice_get-get_or}
 use Rattle.std.specs.List.{list_any}
-use Rattle.std.proofs.lemmas.Nat.{mod_below}
-use Rattle.std.proofs.lemmas.Bool.{lt-ltb, ltb-true}
-use Rattle.std.proofs.lemmas.Option.{same_Some, slice_get-get_or}
 use Rattle.aeth_base.specs.declared.ids.LinkId.{LinkId}
-use Rattle.aeth_chip.specs.declared.node.Link.{Link}
-use Rattle.aeth_chip.specs.Paths.{offset}
+use Rattle.aeth_base.proofs.{Lists.drop-slice_get, Members.Contains-some}
+use Rattle.aeth_chip.specs.{declared.node.Link.Link, Paths.offset}
 use Rattle.aeth_chip.proofs.OffsetLemmas.{offset-more}
 use Rattle.aeth_slots.specs.SlotSet.{Slots, common, rotated, slots_where}
 use Rattle.aeth_slots.proofs.SlotSetLemmas.{Contains-common, Contains-rotated}
 use Rattle.aeth_slots.proofs.TestLemmas.{Contains-where}
-use Rattle.aeth_base.proofs.Lists.{drop-slice_get}
-use Rattle.aeth_base.proofs.Members.{Contains-some}
 use Rattle.aeth_group.proofs.ListLemmas.{any_from_passes, passes_from_any, same_tests}
-use Rattle.aeth_check.specs.Meetings.{meets}
 use Rattle.aeth_group.specs.Tables.{IsTable}
+use Rattle.aeth_check.specs.Meetings.{meets}
 
 some_item : (xs : List ℕ) → 0 < length xs → (x : ℕ) × Contains xs x
 some_item [] some = absurd (omega arith)

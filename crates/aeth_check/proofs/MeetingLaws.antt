@@ -1,16 +1,12 @@
 -- The first item that meets one behind it, and the first pair.
 use Rattle.std.proofs.Common.{◌≡◌, ◌∙◌, ◌<◌, ◌≤◌, ◌+◌, ◌-◌, ◌||◌, ℕ, suc, Bool, true, false, cond}
-use Rattle.std.proofs.Common.{List, [], ◌∷◌, Option, Some, None, drop, length, slice_get, refl}
-use Rattle.std.proofs.Common.{sym, ap}
-use Rattle.std.proofs.Common.{arith, get_or, take}
-use Rattle.std.specs.Prelude.{IfSome}
-use Rattle.std.specs.List.{list_any}
+use Rattle.std.proofs.Common.{List, [], ◌∷◌, Option, Some, None, drop, length, slice_get, refl, sym}
+use Rattle.std.proofs.Common.{ap, arith, get_or, take, IfSome, length-drop, take_all}
 use Rattle.std.proofs.lemmas.Bool.{cond-false, cond-true, false≢true}
-use Rattle.std.proofs.lemmas.Option.{none-some, same_Some, slice_get-get_or}
-use Rattle.std.proofs.lemmas.Option.{slice_get_within}
-use Rattle.std.proofs.lemmas.List.{drop_more, length-drop, take_all}
-use Rattle.aeth_text.specs.Limits.{last_line}
-use Rattle.aeth_text.specs.Order.{line_after}
+use Rattle.std.proofs.lemmas.Option.{none-some, same_Some, slice_get-get_or, slice_get_within}
+use Rattle.std.proofs.lemmas.List.{drop_more}
+use Rattle.std.specs.List.{list_any}
+use Rattle.aeth_text.specs.{Limits.last_line, Order.line_after}
 use Rattle.aeth_base.proofs.Lists.{drop-slice_get}
 use Rattle.aeth_check.specs.Calls.{first_meeting}
 use Rattle.aeth_check.specs.Firsts.{first_line, first_pair, pair_or}

@@ -2,20 +2,16 @@
 -- to.
 use Rattle.std.proofs.Common.{◌≡◌, ◌∙◌, ◌+◌, ◌-◌, ◌<◌, ◌&&◌, ◌||◌, ℕ, zero, suc, true, false, eqb}
 use Rattle.std.proofs.Common.{List, [], ◌∷◌, Option, Some, None, drop, slice_get, refl, sym, ap}
-use Rattle.std.proofs.Common.{inl, inr, subst, arith}
-use Rattle.std.specs.Prelude.{◌%◌, Contains}
+use Rattle.std.proofs.Common.{inl, inr, subst, arith, ◌%◌, Contains, eq-eqb, ne_eqb}
 use Rattle.std.proofs.Math.Bool.{and-false, and-true}
-use Rattle.std.proofs.lemmas.Bool.{cases_eq, eq-eqb, ne_eqb}
+use Rattle.std.proofs.lemmas.Bool.{cases_eq}
 use Rattle.aeth_base.proofs.Lists.{drop-slice_get}
-use Rattle.aeth_base.specs.declared.ids.LinkId.{LinkId}
-use Rattle.aeth_base.specs.declared.ids.NiId.{NiId}
-use Rattle.aeth_base.specs.declared.ids.RouterId.{RouterId}
+use Rattle.aeth_base.specs.declared.ids.{LinkId.LinkId, NiId.NiId, RouterId.RouterId}
 use Rattle.aeth_slots.specs.SlotSet.{Slots, with_slot}
 use Rattle.aeth_slots.proofs.Ascending.{with_slot-new, with_slot-old}
 use Rattle.aeth_chip.specs.Nodes.{begins_at, ends_at, same_node}
 use Rattle.aeth_chip.specs.declared.node.Link.{Link}
-use Rattle.aeth_chip.specs.declared.node.Node.{Node}
-use Rattle.aeth_chip.specs.declared.node.Node.TheVariants.{Router, Ni}
+use Rattle.aeth_chip.specs.declared.node.Node.{Node, TheVariants.Router, TheVariants.Ni}
 use Rattle.aeth_chip.specs.PathTests.{comes_to, follows, is_fresh}
 use Rattle.aeth_check.specs.Routes.{HasPlaces, place_of, places, with_node}
 

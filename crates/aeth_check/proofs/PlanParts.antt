@@ -1,19 +1,15 @@
 -- What a check's rules are handed of a plan.
-use Rattle.std.proofs.Common.{◌≡◌, ◌↔◌, ◌∙◌, Result, Ok, Err, length, ap, sym, arith}
-use Rattle.std.specs.Prelude.{All, IfOk}
+use Rattle.std.proofs.Common.{◌≡◌, ◌↔◌, ◌∙◌, Result, Ok, Err, length, ap, sym, arith, All, IfOk}
 use Rattle.std.proofs.lemmas.List.Elements.{All-from_recursion}
 use Rattle.aeth_base.specs.declared.memory.NoMemory.{NoMemory}
 use Rattle.aeth_chip.specs.Chip.{ChipData, IsChip}
 use Rattle.aeth_app.specs.App.{AppData}
 use Rattle.aeth_group.specs.Members.{GroupsData, groups_of}
-use Rattle.aeth_plan.specs.Plan.{IsGrantOf, IsPlanOf, PlanData}
+use Rattle.aeth_plan.specs.{Plan.IsGrantOf, Plan.IsPlanOf, Plan.PlanData, Accepted.IsAccepted}
 use Rattle.aeth_plan.proofs.PlanAgain.{all_weaker}
-use Rattle.aeth_plan.specs.Accepted.{IsAccepted}
-use Rattle.aeth_check.specs.declared.verdict.Verdict.{Verdict}
-use Rattle.aeth_check.specs.declared.verdict.Verdict.TheVariants.{Accepted}
-use Rattle.aeth_check.specs.Calls.{IsPlaced, IsWithin}
-use Rattle.aeth_check.specs.Verdict.{verdict_of}
-use Rattle.aeth_check.proofs.AcceptedLaws.{accepts}
+use Rattle.aeth_check.{specs.declared.verdict.Verdict.Verdict}
+use Rattle.aeth_check.{specs.declared.verdict.Verdict.TheVariants.Accepted, specs.Calls.IsPlaced}
+use Rattle.aeth_check.{specs.Calls.IsWithin, specs.Verdict.verdict_of, proofs.AcceptedLaws.accepts}
 
 -- The connections of an application's groups are the application's.
 pub connections_of : (app : AppData) (groups : GroupsData) → groups ≡ groups_of app

@@ -1,15 +1,12 @@
 -- A path passes the test of routes exactly where it is admissible.
-use Rattle.std.proofs.Common.{◌≡◌, ◌∙◌, ◌≤◌, ◌+◌, ℕ, true, List, Option, Some, None, length}
-use Rattle.std.proofs.Common.{refl, sym, ap, subst}
+use Rattle.std.proofs.Common.{◌≡◌, ◌∙◌, ◌≤◌, ◌+◌, ℕ, true, List, Option, Some, None, length, refl}
+use Rattle.std.proofs.Common.{sym, ap, subst, le-leb, leb-true}
+use Rattle.std.proofs.lemmas.Bool.{and_from, and_parts, false≢true}
 use Rattle.std.specs.Bool.{Decides}
-use Rattle.std.proofs.lemmas.Bool.{and_from, and_parts, false≢true, le-leb, leb-true}
 use Rattle.aeth_base.specs.Limits.{max_path_links}
-use Rattle.aeth_base.specs.declared.ids.LinkId.{LinkId}
-use Rattle.aeth_base.specs.declared.ids.NiId.{NiId}
-use Rattle.aeth_chip.specs.Chip.{ChipData, IsChip}
-use Rattle.aeth_chip.specs.LeastDistance.{least_distance}
-use Rattle.aeth_chip.specs.PathTests.{is_path_between}
-use Rattle.aeth_chip.specs.Paths.{IsAdmissible, IsDistance}
+use Rattle.aeth_base.specs.declared.ids.{LinkId.LinkId, NiId.NiId}
+use Rattle.aeth_chip.specs.{Chip.ChipData, Chip.IsChip, LeastDistance.least_distance}
+use Rattle.aeth_chip.specs.{PathTests.is_path_between, Paths.IsAdmissible, Paths.IsDistance}
 use Rattle.aeth_chip.proofs.LeastDistanceLemmas.{distance_is_least_distance}
 use Rattle.aeth_chip.proofs.LeastDistanceLemmas.{least_distance_is_distance}
 use Rattle.aeth_chip.proofs.PathTestLemmas.{is_path_between-Decides}

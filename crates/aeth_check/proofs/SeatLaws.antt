@@ -1,23 +1,19 @@
 -- The rules on seats, as tests and as facts.
 use Rattle.std.proofs.Common.{◌≡◌, ◌∙◌, ◌+◌, ℕ, zero, suc, Bool, true, false, cond, eqb, List, []}
-use Rattle.std.proofs.Common.{◌∷◌, Option, Some, None, not, slice_get, refl, sym, ap, arith}
-use Rattle.std.proofs.Common.{◌<◌, ◌≤◌, All, length, set, inl, inr}
+use Rattle.std.proofs.Common.{◌∷◌, Option, Some, None, not, slice_get, refl, sym, ap, arith, ◌<◌}
+use Rattle.std.proofs.Common.{◌≤◌, All, length, set, inl, inr, eq-eqb, eqb-true, ne_eqb}
 use Rattle.std.proofs.Math.ListN.{length-set}
-use Rattle.std.specs.Bool.{Decides}
-use Rattle.std.proofs.lemmas.Bool.{and_from, and_parts, cases_eq, cond-false, cond-true, eq-eqb}
-use Rattle.std.proofs.lemmas.Bool.{eqb-true, false≢true, ne_eqb}
+use Rattle.std.proofs.lemmas.Bool.{and_from, and_parts, cases_eq, cond-false, cond-true, false≢true}
 use Rattle.std.proofs.lemmas.Option.{none-some, same_Some, slice_get_within}
+use Rattle.std.specs.Bool.{Decides}
 use Rattle.aeth_base.proofs.Lists.{slice_get-slice_set_other, slice_get-slice_set_same}
 use Rattle.aeth_base.proofs.Members.{All-slice_get}
-use Rattle.aeth_base.specs.declared.ids.CoreId.{CoreId}
-use Rattle.aeth_base.specs.declared.ids.NiId.{NiId}
-use Rattle.aeth_app.specs.App.{is_ni}
-use Rattle.aeth_app.specs.declared.connection.Core.{Core}
+use Rattle.aeth_base.specs.declared.ids.{CoreId.CoreId, NiId.NiId}
+use Rattle.aeth_app.specs.{App.is_ni, declared.connection.Core.Core}
 use Rattle.aeth_group.specs.declared.grant.SeatLine.{SeatLine}
-use Rattle.aeth_check.specs.Seats.{first_misseated, is_elsewhere, is_misseated}
-use Rattle.aeth_plan.specs.Seated.{IsOneSeat, ni_of}
-use Rattle.aeth_check.specs.Seats.{is_one_seat}
+use Rattle.aeth_check.specs.Seats.{first_misseated, is_elsewhere, is_misseated, is_one_seat}
 use Rattle.aeth_check.specs.Seats.{AreSeatedAt, seat_line}
+use Rattle.aeth_plan.specs.Seated.{IsOneSeat, ni_of}
 
 -- The test decides whether two seats are one.
 pub is_one_seat-Decides : (a b : SeatLine) → Decides (is_one_seat a b) (IsOneSeat a b)

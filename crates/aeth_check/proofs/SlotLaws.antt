@@ -3,11 +3,8 @@ use Rattle.std.proofs.Common.{◌≡◌, ◌↔◌, ℕ, Bool, true, Option, Som
 use Rattle.aeth_slots.specs.Choice.{IsSuitable}
 use Rattle.aeth_slots.proofs.ChoiceLemmas.{is_suitable-true, true-is_suitable}
 use Rattle.aeth_chip.specs.Chip.{ChipData}
-use Rattle.aeth_app.specs.App.{AppData}
-use Rattle.aeth_app.specs.Rates.{need_of}
-use Rattle.aeth_app.specs.declared.connection.Connection.{Connection}
-use Rattle.aeth_group.specs.declared.grant.Grant.{Grant}
-use Rattle.aeth_group.proofs.ListLemmas.{same_tests}
+use Rattle.aeth_app.specs.{App.AppData, Rates.need_of, declared.connection.Connection.Connection}
+use Rattle.aeth_group.{specs.declared.grant.Grant.Grant, proofs.ListLemmas.same_tests}
 use Rattle.aeth_check.specs.Channels.{fits_slots}
 use Rattle.aeth_plan.specs.Accepted.{gap_for}
 

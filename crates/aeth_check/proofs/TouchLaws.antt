@@ -1,17 +1,14 @@
 -- A grant meets the table of some grants exactly where it conflicts with one of them.
-use Rattle.std.proofs.Common.{◌≡◌, ◌∙◌, ◌+◌, ◌%◌, ◌&&◌, ◌||◌, ℕ, Bool, true, false, List}
-use Rattle.std.proofs.Common.{[], ◌∷◌, length, refl, sym, ap}
-use Rattle.std.specs.List.{list_any, range_with_len}
+use Rattle.std.proofs.Common.{◌≡◌, ◌∙◌, ◌+◌, ◌%◌, ◌&&◌, ◌||◌, ℕ, Bool, true, false, List, [], ◌∷◌}
+use Rattle.std.proofs.Common.{length, refl, sym, ap}
 use Rattle.std.proofs.Math.Bool.{and-false, and-or_distrib_left}
+use Rattle.std.specs.List.{list_any, range_with_len}
 use Rattle.aeth_base.specs.declared.ids.LinkId.{LinkId}
-use Rattle.aeth_chip.specs.Paths.{delay_of}
-use Rattle.aeth_chip.specs.declared.node.Link.{Link}
+use Rattle.aeth_chip.specs.{Paths.delay_of, declared.node.Link.Link}
 use Rattle.aeth_slots.specs.SlotSet.{Slots}
-use Rattle.aeth_group.specs.Members.{GroupsData, has_unit}
-use Rattle.aeth_group.specs.Occupation.{holds_in}
-use Rattle.aeth_group.specs.declared.grant.Grant.{Grant}
-use Rattle.aeth_check.specs.Meetings.{conflicts, meets, touches}
-use Rattle.aeth_check.specs.Masks.{is_held}
+use Rattle.aeth_group.specs.{Members.GroupsData, Members.has_unit, Occupation.holds_in}
+use Rattle.aeth_group.specs.{declared.grant.Grant.Grant}
+use Rattle.aeth_check.specs.{Meetings.conflicts, Meetings.meets, Meetings.touches, Masks.is_held}
 
 -- ---- Some item of a list passes
 

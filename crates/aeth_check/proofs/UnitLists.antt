@@ -1,16 +1,13 @@
 -- The units of groups and of connections that are left.
-use Rattle.std.proofs.Common.{◌≡◌, ◌+◌, ◌-◌, ◌<◌, ◌∙◌, ◌++◌, ℕ, List, [], ◌∷◌}
-use Rattle.std.proofs.Common.{map, Option, Some, None, refl, sym, ap, arith, ◌≤◌}
-use Rattle.std.specs.Option.{option_or}
+use Rattle.std.proofs.Common.{◌≡◌, ◌+◌, ◌-◌, ◌<◌, ◌∙◌, ◌++◌, ℕ, List, [], ◌∷◌, map, Option, Some}
+use Rattle.std.proofs.Common.{None, refl, sym, ap, arith, ◌≤◌, filter, flat_map}
 use Rattle.std.proofs.lemmas.List.Concat.{flat_map-cons}
+use Rattle.std.specs.{Option.option_or, List.range_with_len}
 use Rattle.aeth_base.proofs.Ranges.{range_more}
-use Rattle.aeth_base.specs.declared.ids.Side.{Side}
+use Rattle.aeth_base.specs.declared.ids.{Side.Side, Unit.Unit as GroupUnit}
 use Rattle.aeth_group.specs.declared.grant.Grant.{Grant}
-use Rattle.aeth_check.specs.Channels.{first_lacking, lacking_side, side_or}
-use Rattle.std.specs.Prelude.{filter, flat_map}
-use Rattle.std.specs.List.{range_with_len}
-use Rattle.aeth_base.specs.declared.ids.Unit.{Unit as GroupUnit}
 use Rattle.aeth_group.specs.Members.{GroupsData, is_member, units_with}
+use Rattle.aeth_check.specs.Channels.{first_lacking, lacking_side, side_or}
 
 -- The units of a connection with the groups from one on.
 abbrev pub units_from : GroupsData → ℕ → ℕ → List GroupUnit

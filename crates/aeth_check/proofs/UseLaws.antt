@@ -1,26 +1,20 @@
 -- The use cases of a unit's group, one after the other: whether flits meet in one of them, and where
 -- flits change masks.
-use Rattle.std.proofs.Common.{◌≡◌, ◌∙◌, ◌<◌, ◌≤◌, ◌+◌, ◌*◌, ◌&&◌, ◌||◌, ℕ, Bool, true, false}
-use Rattle.std.proofs.Common.{eqb, ltb}
-use Rattle.std.proofs.Math.Nat.{mul-le-mul_right}
-use Rattle.std.proofs.Common.{List, [], ◌∷◌, length, get_or, take, refl, sym, ap, arith}
-use Rattle.std.proofs.Common.{inl, inr}
+use Rattle.std.proofs.Common.{◌≡◌, ◌∙◌, ◌<◌, ◌≤◌, ◌+◌, ◌*◌, ◌&&◌, ◌||◌, ℕ, Bool, true, false, eqb}
+use Rattle.std.proofs.Common.{ltb, List, [], ◌∷◌, length, get_or, take, refl, sym, ap, arith, inl}
+use Rattle.std.proofs.Common.{inr, eq-eqb, lt-ltb, ne_eqb}
+use Rattle.std.proofs.Math.{Nat.mul-le-mul_right, Bool.or-false}
+use Rattle.std.proofs.lemmas.Bool.{and_parts, cases_Bool, cases_eq}
+use Rattle.std.proofs.lemmas.List.{take_more, Folds.list_any-append}
 use Rattle.std.specs.List.{list_any, range_with_len}
-use Rattle.std.proofs.Math.Bool.{or-false}
-use Rattle.std.proofs.lemmas.Bool.{and_parts, cases_Bool, cases_eq, eq-eqb, lt-ltb, ne_eqb}
-use Rattle.std.proofs.lemmas.List.{take_more}
-use Rattle.std.proofs.lemmas.List.Folds.{list_any-append}
-use Rattle.aeth_base.specs.declared.ids.LinkId.{LinkId}
-use Rattle.aeth_base.specs.declared.ids.Unit.{Unit as GroupUnit}
+use Rattle.aeth_base.specs.declared.ids.{LinkId.LinkId, Unit.Unit as GroupUnit}
 use Rattle.aeth_base.proofs.Members.{Contains-filter, Contains-list_any}
 use Rattle.aeth_base.proofs.Ranges.{Contains-range}
 use Rattle.aeth_chip.specs.declared.node.Link.{Link}
 use Rattle.aeth_slots.specs.SlotSet.{Slots}
-use Rattle.aeth_group.specs.Members.{GroupsData, group_at, has_unit}
-use Rattle.aeth_group.specs.Occupation.{enters}
-use Rattle.aeth_group.specs.Rows.{uses_of}
-use Rattle.aeth_group.specs.Tables.{Changes, hits_row, hits_uses}
-use Rattle.aeth_group.specs.declared.grant.Grant.{Grant}
+use Rattle.aeth_group.specs.{Members.GroupsData, Members.group_at, Members.has_unit}
+use Rattle.aeth_group.specs.{Occupation.enters, Rows.uses_of, Tables.Changes, Tables.hits_row}
+use Rattle.aeth_group.specs.{Tables.hits_uses, declared.grant.Grant.Grant}
 use Rattle.aeth_group.proofs.RowLemmas.{any-uses_of, group-has_unit, use_is_there}
 use Rattle.aeth_group.proofs.TableLemmas.{changes-same, changes-then}
 use Rattle.aeth_check.specs.Meetings.{meets, touches}

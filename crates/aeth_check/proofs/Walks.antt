@@ -1,8 +1,8 @@
 -- Walks over lists by place.
-use Rattle.std.proofs.Common.{◌≡◌, ◌+◌, ◌∙◌, ◌||◌, ℕ, Bool, true, false, List, drop, Some}
-use Rattle.std.proofs.Common.{Option, slice_get, sym, ap}
-use Rattle.std.specs.List.{list_any}
+use Rattle.std.proofs.Common.{◌≡◌, ◌+◌, ◌∙◌, ◌||◌, ℕ, Bool, true, false, List, drop, Some, Option}
+use Rattle.std.proofs.Common.{slice_get, sym, ap}
 use Rattle.std.proofs.lemmas.Bool.{cond-false, cond-true}
+use Rattle.std.specs.List.{list_any}
 use Rattle.aeth_app.specs.declared.connection.Core.{Core}
 use Rattle.aeth_group.specs.declared.grant.SeatLine.{SeatLine}
 use Rattle.aeth_base.proofs.Lists.{drop-slice_get}

@@ -3,8 +3,8 @@
 --   IsWithin, IsPlaced      a grant that names what there is
 --   first_meeting      the place of the first item that meets one behind it
 -- This project's own.
-use Rattle.std.specs.Prelude.{◌≡◌, ◌<◌, ◌≤◌, ◌+◌, ℕ, Bool, List, [], ◌∷◌, Option, Some, None, All}
-use Rattle.std.specs.Prelude.{length, if◌then◌else◌}
+use Rattle.std.proofs.Common.{◌≡◌, ◌<◌, ◌≤◌, ◌+◌, ℕ, Bool, List, [], ◌∷◌, Option, Some, None, All}
+use Rattle.std.proofs.Common.{length, if◌then◌else◌}
 use Rattle.std.specs.List.{list_any}
 use Rattle.aeth_chip.specs.Chip.{ChipData}
 use Rattle.aeth_app.specs.App.{AppData}

@@ -6,25 +6,16 @@
 --   fits_path      whether a grant's path leads from the sender's seat to the receiver's
 --   fits_slots      whether a grant's slots suffice for what the channel needs and wishes
 -- Connections: after Æthereal (2005). The rest: this project's own.
-use Rattle.std.specs.Prelude.{ℕ, Bool, false, List, [], ◌∷◌}
-use Rattle.std.specs.Prelude.{Option, Some, None, if◌then◌else◌}
+use Rattle.std.proofs.Common.{ℕ, Bool, false, List, [], ◌∷◌, Option, Some, None, if◌then◌else◌}
 use Rattle.std.specs.List.{list_any}
-use Rattle.aeth_base.specs.declared.ids.LinkId.{LinkId}
-use Rattle.aeth_base.specs.declared.ids.NiId.{NiId}
-use Rattle.aeth_base.specs.declared.ids.Side.{Side}
-use Rattle.aeth_base.specs.declared.ids.Side.TheVariants.{Fwd, Back}
-use Rattle.aeth_base.specs.declared.ids.Unit.{Unit as GroupUnit}
+use Rattle.aeth_base.specs.declared.ids.{LinkId.LinkId, NiId.NiId, Side.Side, Side.TheVariants.Fwd}
+use Rattle.aeth_base.specs.declared.ids.{Side.TheVariants.Back, Unit.Unit as GroupUnit}
 use Rattle.aeth_slots.specs.Choice.{is_suitable}
 use Rattle.aeth_chip.specs.Chip.{ChipData}
-use Rattle.aeth_app.specs.App.{AppData}
-use Rattle.aeth_app.specs.Connections.{receiver, sender}
-use Rattle.aeth_app.specs.Rates.{need_of}
-use Rattle.aeth_app.specs.declared.connection.Connection.{Connection}
-use Rattle.aeth_group.specs.declared.grant.Grant.{Grant}
-use Rattle.aeth_group.specs.declared.grant.SeatLine.{SeatLine}
-use Rattle.aeth_plan.specs.Accepted.{gap_for}
-use Rattle.aeth_plan.specs.UnitGrants.{is_for}
-use Rattle.aeth_plan.specs.Seated.{ni_of}
+use Rattle.aeth_app.specs.{App.AppData, Connections.receiver, Connections.sender, Rates.need_of}
+use Rattle.aeth_app.specs.{declared.connection.Connection.Connection}
+use Rattle.aeth_group.specs.declared.grant.{Grant.Grant, SeatLine.SeatLine}
+use Rattle.aeth_plan.specs.{Accepted.gap_for, UnitGrants.is_for, Seated.ni_of}
 use Rattle.aeth_check.specs.Routes.{is_admissible}
 
 -- ---- Units

@@ -3,8 +3,7 @@
 --   first_line      the line of the first item that passes
 --   first_pair      the lines of the first pair of items that passes
 -- This project's own.
-use Rattle.std.specs.Prelude.{ℕ, Bool, List, [], ◌∷◌, Option, Some, None}
-use Rattle.std.specs.Prelude.{if◌then◌else◌}
+use Rattle.std.proofs.Common.{ℕ, Bool, List, [], ◌∷◌, Option, Some, None, if◌then◌else◌}
 use Rattle.aeth_text.specs.Order.{line_after}
 
 -- The line of the first item that passes a test. The first item of the list stands on `line`.

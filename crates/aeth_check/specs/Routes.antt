@@ -2,18 +2,14 @@
 --
 --   place_of, with_node, HasPlaces      sets of the places of routers
 --   is_near, is_admissible      a path that a flit may take
-use Rattle.std.specs.Prelude.{◌≡◌, ℕ, ◌+◌, ◌%◌, ◌&&◌, nat_le, Bool, true, false, List, length}
-use Rattle.std.specs.Prelude.{Option, Some, None, Contains}
+use Rattle.std.proofs.Common.{◌≡◌, ℕ, ◌+◌, ◌%◌, ◌&&◌, nat_le, Bool, true, false, List, length}
+use Rattle.std.proofs.Common.{Option, Some, None, Contains}
 use Rattle.aeth_base.specs.Limits.{max_path_links}
-use Rattle.aeth_base.specs.declared.ids.LinkId.{LinkId}
-use Rattle.aeth_base.specs.declared.ids.NiId.{NiId}
-use Rattle.aeth_base.specs.declared.ids.RouterId.{RouterId}
-use Rattle.aeth_chip.specs.Chip.{ChipData}
-use Rattle.aeth_chip.specs.LeastDistance.{least_distance}
-use Rattle.aeth_chip.specs.PathTests.{comes_to, is_path_between}
-use Rattle.aeth_chip.specs.declared.node.Link.{Link}
-use Rattle.aeth_chip.specs.declared.node.Node.{Node}
-use Rattle.aeth_chip.specs.declared.node.Node.TheVariants.{Router, Ni}
+use Rattle.aeth_base.specs.declared.ids.{LinkId.LinkId, NiId.NiId, RouterId.RouterId}
+use Rattle.aeth_chip.specs.{Chip.ChipData, LeastDistance.least_distance, PathTests.comes_to}
+use Rattle.aeth_chip.specs.{PathTests.is_path_between, declared.node.Link.Link}
+use Rattle.aeth_chip.specs.{declared.node.Node.Node, declared.node.Node.TheVariants.Router}
+use Rattle.aeth_chip.specs.{declared.node.Node.TheVariants.Ni}
 use Rattle.aeth_slots.specs.SlotSet.{Slots, inserted}
 
 -- The places of a set of routers.

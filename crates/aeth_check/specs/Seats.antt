@@ -4,18 +4,13 @@
 --   seat_place, HasMarks      the places of seats in a table
 --   AreSeatedAt, seat_line      a table of the interfaces of cores' seats; the line of a core's
 --   is_misseated, first_misseated      cores that are fixed to an interface and not seated there
-use Rattle.std.specs.Prelude.{◌≡◌, ◌+◌, ◌*◌, ◌==◌, ◌&&◌, ℕ, Bool, true, false, not, List, []}
-use Rattle.std.specs.Prelude.{◌∷◌, Option, Some, None, Contains, slice_get, unwrap_or}
-use Rattle.std.specs.Prelude.{if◌then◌else◌}
-use Rattle.aeth_base.specs.declared.ids.CoreId.{CoreId}
-use Rattle.aeth_base.specs.declared.ids.NiId.{NiId}
+use Rattle.std.proofs.Common.{◌≡◌, ◌+◌, ◌*◌, ◌==◌, ◌&&◌, ℕ, Bool, true, false, not, List, [], ◌∷◌}
+use Rattle.std.proofs.Common.{Option, Some, None, Contains, slice_get, unwrap_or, if◌then◌else◌}
+use Rattle.aeth_base.specs.declared.ids.{CoreId.CoreId, NiId.NiId}
 use Rattle.aeth_chip.specs.Index.{HasEntries}
-use Rattle.aeth_app.specs.App.{is_ni}
-use Rattle.aeth_app.specs.Limits.{seats_per_ni}
-use Rattle.aeth_app.specs.declared.connection.Core.{Core}
+use Rattle.aeth_app.specs.{App.is_ni, Limits.seats_per_ni, declared.connection.Core.Core}
 use Rattle.aeth_group.specs.declared.grant.SeatLine.{SeatLine}
-use Rattle.aeth_plan.specs.Layout.{first_seat_line}
-use Rattle.aeth_plan.specs.Seated.{ni_of}
+use Rattle.aeth_plan.specs.{Layout.first_seat_line, Seated.ni_of}
 use Rattle.aeth_check.specs.Firsts.{first_line}
 
 -- Whether two lines seat cores on one seat.

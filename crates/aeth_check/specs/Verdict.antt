@@ -4,15 +4,13 @@
 --   shared_seat .. conflict      the rules, one by one
 --   verdict_of      the verdict
 -- This project's own.
-use Rattle.std.specs.Prelude.{ℕ, not, Option, option_map, slice_get, unwrap_or}
+use Rattle.std.proofs.Common.{ℕ, not, Option, option_map, slice_get, unwrap_or}
 use Rattle.std.specs.Option.{option_or}
-use Rattle.aeth_base.specs.declared.ids.Side.{Side}
-use Rattle.aeth_base.specs.declared.ids.Unit.{Unit as GroupUnit}
+use Rattle.aeth_base.specs.declared.ids.{Side.Side, Unit.Unit as GroupUnit}
 use Rattle.aeth_chip.specs.Chip.{ChipData}
 use Rattle.aeth_app.specs.App.{AppData}
 use Rattle.aeth_group.specs.Members.{GroupsData, is_member, units_of}
-use Rattle.aeth_plan.specs.Layout.{first_grant_line, first_seat_line}
-use Rattle.aeth_plan.specs.Plan.{PlanData}
+use Rattle.aeth_plan.specs.{Layout.first_grant_line, Layout.first_seat_line, Plan.PlanData}
 use Rattle.aeth_check.specs.declared.verdict.Verdict.{Verdict}
 use Rattle.aeth_check.specs.declared.verdict.Verdict.TheVariants.{Accepted, Missing, Broken}
 use Rattle.aeth_check.specs.Channels.{first_lacking, fits_path, fits_slots}

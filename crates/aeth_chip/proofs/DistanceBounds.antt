@@ -1,16 +1,11 @@
 -- How great the least numbers of links of a chip are.
-use Rattle.std.proofs.Common.{◌+◌, ◌<◌, ◌≤◌, ℕ, List, Option, Some, None, arith}
-use Rattle.std.specs.Prelude.{IfSome}
-use Rattle.aeth_base.specs.declared.ids.NiId.{NiId}
-use Rattle.aeth_base.specs.declared.ids.RouterId.{RouterId}
-use Rattle.aeth_chip.specs.declared.node.Link.{Link}
-use Rattle.aeth_chip.specs.declared.node.Node.TheVariants.{Router, Ni}
-use Rattle.aeth_chip.specs.Distances.{AreBelow}
-use Rattle.aeth_chip.specs.Limits.{max_routers}
-use Rattle.aeth_chip.specs.Paths.{IsDistance, IsOnwardDistance}
-use Rattle.aeth_chip.proofs.JoinedLaws.{joins-length}
-use Rattle.aeth_chip.proofs.LeastDistanceLemmas.{path-within}
-use Rattle.aeth_chip.proofs.RouterLemmas.{length-distinct_onward}
+use Rattle.std.proofs.Common.{◌+◌, ◌<◌, ◌≤◌, ℕ, List, Option, Some, None, arith, IfSome}
+use Rattle.aeth_base.specs.declared.ids.{NiId.NiId, RouterId.RouterId}
+use Rattle.aeth_chip.specs.{declared.node.Link.Link, declared.node.Node.TheVariants.Router}
+use Rattle.aeth_chip.specs.{declared.node.Node.TheVariants.Ni, Distances.AreBelow}
+use Rattle.aeth_chip.specs.{Limits.max_routers, Paths.IsDistance, Paths.IsOnwardDistance}
+use Rattle.aeth_chip.proofs.{JoinedLaws.joins-length, LeastDistanceLemmas.path-within}
+use Rattle.aeth_chip.proofs.{RouterLemmas.length-distinct_onward}
 
 -- A least number of links between interfaces is at least 2, and at most one more than there are
 -- routers.

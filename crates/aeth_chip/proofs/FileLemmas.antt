@@ -1,19 +1,15 @@
 -- What a file tells, where its rules are kept: every chip that a file tells is one.
-use Rattle.std.proofs.Common.{◌≡◌, ℕ, List, Option, Some, None, length, refl, subst, sym}
-use Rattle.std.specs.Prelude.{Err, Ok, Result}
+use Rattle.std.proofs.Common.{◌≡◌, ℕ, List, Option, Some, None, length, refl, subst, sym, Err, Ok}
+use Rattle.std.proofs.Common.{Result}
 use Rattle.toml.specs.Data.{Members}
 use Rattle.aeth_base.specs.Faults.{BrokenRule}
-use Rattle.aeth_document.specs.Chain.{◌>>=◌}
-use Rattle.aeth_document.specs.Document.{document_of}
-use Rattle.aeth_chip.specs.declared.node.Link.{Link}
-use Rattle.aeth_chip.specs.Chip.{ChipData, IsChip}
-use Rattle.aeth_chip.specs.ChipFile.{chip_in, chip_of, ends_are_known, is_in_range, keys_fit}
-use Rattle.aeth_chip.specs.ChipFile.{judged_links, names_differ, nis_are_single, ports_are_few}
-use Rattle.aeth_chip.specs.ChipFile.{toml_of}
-use Rattle.aeth_chip.specs.ChipParts.{chip_with}
-use Rattle.aeth_chip.specs.Told.{nis_of, routers_of, slots_of, told_chip, told_links}
-use Rattle.aeth_chip.specs.declared.links.NodeNames.{NodeNames}
-use Rattle.aeth_document.specs.Walks.{size_of}
+use Rattle.aeth_document.specs.{Chain.◌>>=◌, Document.document_of, Walks.size_of}
+use Rattle.aeth_chip.specs.{declared.node.Link.Link, Chip.ChipData, Chip.IsChip, ChipFile.chip_in}
+use Rattle.aeth_chip.specs.{ChipFile.chip_of, ChipFile.ends_are_known, ChipFile.is_in_range}
+use Rattle.aeth_chip.specs.{ChipFile.keys_fit, ChipFile.judged_links, ChipFile.names_differ}
+use Rattle.aeth_chip.specs.{ChipFile.nis_are_single, ChipFile.ports_are_few, ChipFile.toml_of}
+use Rattle.aeth_chip.specs.{ChipParts.chip_with, Told.nis_of, Told.routers_of, Told.slots_of}
+use Rattle.aeth_chip.specs.{Told.told_chip, Told.told_links, declared.links.NodeNames.NodeNames}
 use Rattle.aeth_chip.proofs.LinkLemmas.{told_is_chip}
 
 -- A rule before others is kept where they come to a value, and so are the others.

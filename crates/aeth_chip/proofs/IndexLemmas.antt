@@ -1,31 +1,24 @@
 -- What is read in an index of a chip's links is what stands among the links.
-use Rattle.std.proofs.Common.{◌≡◌, ◌<◌, ◌≤◌, ◌+◌, ◌++◌, ◌∙◌, ℕ, zero, suc, Bool, true, false, List, []}
-use Rattle.std.proofs.Common.{◌∷◌, Option, Some, length}
-use Rattle.std.specs.List.{range_with_len}
-use Rattle.std.specs.Prelude.{count_by}
-use Rattle.std.proofs.Common.{if◌then◌else◌, map, slice_get, subst, take, refl, sym, ap, inl, inr}
-use Rattle.std.proofs.Common.{arith}
-use Rattle.std.specs.declared.vec.Vec.{Vec}
-use Rattle.std.specs.declared.alloc.Global.{Global}
-use Rattle.std.proofs.lemmas.Bool.{cases_Bool, ne_eqb}
-use Rattle.std.proofs.lemmas.List.{length-map, length-take-le, map-append, take_more}
-use Rattle.std.proofs.lemmas.Option.{get_or_from_slice_get, same_Some, slice_get_cases}
-use Rattle.std.proofs.lemmas.Option.{slice_get_within}
-use Rattle.aeth_base.specs.declared.ids.LinkId.{LinkId}
-use Rattle.aeth_base.specs.declared.ids.RouterId.{RouterId}
-use Rattle.aeth_chip.specs.declared.node.End.{End}
-use Rattle.aeth_chip.specs.declared.node.End.TheVariants.{From, To}
+use Rattle.std.proofs.Common.{◌≡◌, ◌<◌, ◌≤◌, ◌+◌, ◌++◌, ◌∙◌, ℕ, zero, suc, Bool, true, false, List}
+use Rattle.std.proofs.Common.{[], ◌∷◌, Option, Some, length, count_by, if◌then◌else◌, map}
+use Rattle.std.proofs.Common.{slice_get, subst, take, refl, sym, ap, inl, inr, arith, ne_eqb}
+use Rattle.std.proofs.Common.{length-take-le}
+use Rattle.std.proofs.lemmas.{Bool.cases_Bool, List.length-map, List.map-append, List.take_more}
+use Rattle.std.proofs.lemmas.{Option.get_or_from_slice_get, Option.same_Some}
+use Rattle.std.proofs.lemmas.{Option.slice_get_cases, Option.slice_get_within}
+use Rattle.std.specs.{List.range_with_len, declared.vec.Vec.Vec, declared.alloc.Global.Global}
+use Rattle.aeth_base.specs.declared.ids.{LinkId.LinkId, RouterId.RouterId}
+use Rattle.aeth_chip.specs.declared.node.End.{End, TheVariants.From, TheVariants.To}
 use Rattle.aeth_chip.specs.declared.node.Link.{Link}
-use Rattle.aeth_chip.specs.declared.node.Node.{Node}
-use Rattle.aeth_chip.specs.declared.node.Node.TheVariants.{Router, Ni}
+use Rattle.aeth_chip.specs.declared.node.Node.{Node, TheVariants.Router, TheVariants.Ni}
+use Rattle.aeth_chip.specs.declared.lists.NiLink.{NiLink}
+use Rattle.aeth_chip.specs.declared.lists.NiLink.TheVariants.{Missing, One, Several}
+use Rattle.aeth_chip.specs.declared.lists.RouterLinks.{RouterLinks}
 use Rattle.aeth_chip.specs.Chip.{ChipData, IsChip, IsNode}
 use Rattle.aeth_chip.specs.Index.{AreListed, AreRouterLinks, HasEntries, IsNiLink, IsPort, as_ni}
 use Rattle.aeth_chip.specs.Index.{as_router, count_at, crowded_in, entry_for, list_at, ni_link}
 use Rattle.aeth_chip.specs.Index.{ni_link_with}
 use Rattle.aeth_chip.specs.ChipFile.{crowded}
-use Rattle.aeth_chip.specs.declared.lists.NiLink.{NiLink}
-use Rattle.aeth_chip.specs.declared.lists.NiLink.TheVariants.{Missing, One, Several}
-use Rattle.aeth_chip.specs.declared.lists.RouterLinks.{RouterLinks}
 use Rattle.aeth_chip.specs.Nodes.{IsBelow, begins_at, end_node, has_end, numbers_from, router_of}
 use Rattle.aeth_chip.specs.Nodes.{same_node}
 use Rattle.aeth_chip.proofs.NodeLemmas.{length-numbers_from, numbers_from-none, numbers_from-push}

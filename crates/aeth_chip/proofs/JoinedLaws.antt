@@ -1,18 +1,12 @@
 -- Laws of joined lists, of links that join a node to a node, and of open links.
-use Rattle.std.proofs.Common.{◌≡◌, ◌∙◌, ◌+◌, ◌++◌, ℕ, zero, suc, List, [], ◌∷◌, Some, length}
-use Rattle.std.proofs.Common.{map, slice_get, Contains, refl, sym, ap, subst, inl, inr}
-use Rattle.std.proofs.Common.{length-append}
-use Rattle.std.proofs.lemmas.List.{length-map}
-use Rattle.std.proofs.lemmas.Option.{same_Some}
+use Rattle.std.proofs.Common.{◌≡◌, ◌∙◌, ◌+◌, ◌++◌, ℕ, zero, suc, List, [], ◌∷◌, Some, length, map}
+use Rattle.std.proofs.Common.{slice_get, Contains, refl, sym, ap, subst, inl, inr, length-append}
+use Rattle.std.proofs.lemmas.{List.length-map, Option.same_Some}
 use Rattle.aeth_base.proofs.Members.{Contains-cases, Contains-nil}
-use Rattle.aeth_base.specs.declared.ids.LinkId.{LinkId}
-use Rattle.aeth_base.specs.declared.ids.RouterId.{RouterId}
+use Rattle.aeth_base.specs.declared.ids.{LinkId.LinkId, RouterId.RouterId}
 use Rattle.aeth_chip.specs.Joined.{IsJoined, end_of}
-use Rattle.aeth_chip.specs.Paths.{BeginsAt, IsLinkFrom, Joins, to_in}
-use Rattle.aeth_chip.specs.Paths.{to_of}
-use Rattle.aeth_chip.specs.declared.node.Link.{Link}
-use Rattle.aeth_chip.specs.declared.node.Node.{Node}
-use Rattle.aeth_chip.specs.declared.node.Node.TheVariants.{Router}
+use Rattle.aeth_chip.specs.Paths.{BeginsAt, IsLinkFrom, Joins, to_in, to_of}
+use Rattle.aeth_chip.specs.declared.node.{Link.Link, Node.Node, Node.TheVariants.Router}
 
 -- ---- joined elements
 

@@ -2,32 +2,26 @@
 -- the relation `IsDistance` tells, and the only one.
 use Rattle.std.proofs.Common.{◌≡◌, ◌∙◌, ◌+◌, ◌<◌, ◌≤◌, ℕ, zero, suc, Bool, true, false, cond, List}
 use Rattle.std.proofs.Common.{[], ◌∷◌, Option, Some, None, length, map, Contains, refl, sym, ap}
-use Rattle.std.proofs.Common.{inl, inr, arith}
-use Rattle.std.specs.Bool.{Decides}
-use Rattle.std.specs.List.{list_any, range_with_len}
-use Rattle.std.proofs.lemmas.Bool.{both_ways, cases_lt, le-ltb, lt-ltb}
-use Rattle.std.proofs.lemmas.List.Folds.{Any-from_list_any, list_any-from_Any}
-use Rattle.std.proofs.lemmas.Option.{slice_get_within}
+use Rattle.std.proofs.Common.{inl, inr, arith, le-ltb, lt-ltb}
+use Rattle.std.proofs.lemmas.{Bool.both_ways, Bool.cases_lt, List.Folds.Any-from_list_any}
+use Rattle.std.proofs.lemmas.{List.Folds.list_any-from_Any, Option.slice_get_within}
+use Rattle.std.specs.{Bool.Decides, List.list_any, List.range_with_len}
 use Rattle.aeth_base.specs.Extremes.{least_below}
+use Rattle.aeth_base.specs.declared.ids.{LinkId.LinkId, NiId.NiId}
 use Rattle.aeth_base.proofs.ExtremeLemmas.{least_below-first, least_below-passes}
 use Rattle.aeth_base.proofs.Members.{Contains-cases, Contains-flat_map, Contains-here, Contains-map}
 use Rattle.aeth_base.proofs.Members.{Contains-nil, Contains-there, flat_map-Contains, map-Contains}
 use Rattle.aeth_base.proofs.Ranges.{Contains-range}
-use Rattle.aeth_base.specs.declared.ids.LinkId.{LinkId}
-use Rattle.aeth_base.specs.declared.ids.NiId.{NiId}
-use Rattle.aeth_chip.specs.declared.node.Link.{Link}
-use Rattle.aeth_chip.specs.declared.node.Node.{Node}
-use Rattle.aeth_chip.specs.declared.node.Node.TheVariants.{Ni}
+use Rattle.aeth_chip.specs.declared.node.{Link.Link, Node.Node, Node.TheVariants.Ni}
 use Rattle.aeth_chip.specs.Chip.{ChipData, IsChip}
 use Rattle.aeth_chip.specs.Distances.{AreBelow}
 use Rattle.aeth_chip.specs.Joined.{IsJoined}
 use Rattle.aeth_chip.specs.LeastDistance.{below, has_path, least_distance, link_ids, lists_of}
 use Rattle.aeth_chip.specs.PathTests.{is_path_between}
 use Rattle.aeth_chip.specs.Paths.{BeginsAt, IsPath, IsLeast, IsDistance, to_of}
-use Rattle.aeth_chip.proofs.JoinedLaws.{joined-each, joins-length}
-use Rattle.aeth_chip.proofs.LinkLemmas.{node_below}
-use Rattle.aeth_chip.proofs.PathTestLemmas.{is_path_between-Decides}
-use Rattle.aeth_chip.proofs.RouterLemmas.{length-distinct_routers}
+use Rattle.aeth_chip.proofs.{JoinedLaws.joined-each, JoinedLaws.joins-length, LinkLemmas.node_below}
+use Rattle.aeth_chip.proofs.{PathTestLemmas.is_path_between-Decides}
+use Rattle.aeth_chip.proofs.{RouterLemmas.length-distinct_routers}
 
 -- ---- lists of so many elements
 

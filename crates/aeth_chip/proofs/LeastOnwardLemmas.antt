@@ -1,21 +1,15 @@
 -- Laws of the least number of links from a router as a function: it is the least number that the
 -- relation `IsOnwardDistance` tells, and the only one.
-use Rattle.std.proofs.Common.{◌≡◌, ◌∙◌, ◌+◌, ℕ, List, [], ◌∷◌, Option, length, not}
-use Rattle.std.proofs.Common.{sym, ap, arith}
-use Rattle.std.specs.Bool.{Decides}
+use Rattle.std.proofs.Common.{◌≡◌, ◌∙◌, ◌+◌, ℕ, List, [], ◌∷◌, Option, length, not, sym, ap, arith}
 use Rattle.std.proofs.lemmas.Bool.{and_from, and_parts, false≢true}
+use Rattle.std.specs.Bool.{Decides}
 use Rattle.aeth_base.specs.Extremes.{least_below}
-use Rattle.aeth_base.specs.declared.ids.LinkId.{LinkId}
-use Rattle.aeth_base.specs.declared.ids.NiId.{NiId}
-use Rattle.aeth_base.specs.declared.ids.RouterId.{RouterId}
-use Rattle.aeth_chip.specs.declared.node.Link.{Link}
-use Rattle.aeth_chip.specs.declared.node.Node.TheVariants.{Router, Ni}
-use Rattle.aeth_chip.specs.Chip.{ChipData, IsChip}
-use Rattle.aeth_chip.specs.Distances.{AreBelow}
-use Rattle.aeth_chip.specs.LeastDistance.{below}
-use Rattle.aeth_chip.specs.LeastOnward.{has_onward, is_onward, least_onward}
-use Rattle.aeth_chip.specs.PathTests.{is_fresh}
-use Rattle.aeth_chip.specs.Paths.{IsOnward, IsOnwardDistance}
+use Rattle.aeth_base.specs.declared.ids.{LinkId.LinkId, NiId.NiId, RouterId.RouterId}
+use Rattle.aeth_chip.specs.{declared.node.Link.Link, declared.node.Node.TheVariants.Router}
+use Rattle.aeth_chip.specs.{declared.node.Node.TheVariants.Ni, Chip.ChipData, Chip.IsChip}
+use Rattle.aeth_chip.specs.{Distances.AreBelow, LeastDistance.below, LeastOnward.has_onward}
+use Rattle.aeth_chip.specs.{LeastOnward.is_onward, LeastOnward.least_onward, PathTests.is_fresh}
+use Rattle.aeth_chip.specs.{Paths.IsOnward, Paths.IsOnwardDistance}
 use Rattle.aeth_chip.proofs.JoinedLaws.{joins-length, joins-none}
 use Rattle.aeth_chip.proofs.LeastDistanceLemmas.{IsLeast-unique, joined-within, least-is}
 use Rattle.aeth_chip.proofs.LinkLemmas.{node_below}

@@ -1,10 +1,8 @@
 -- Laws of the search in levels: what it has found after some rounds, and at its end.
-use Rattle.std.proofs.Common.{◌≡◌, ◌⊎◌, ◌∙◌, ◌+◌, ◌<◌, ◌≤◌, ℕ, zero, suc, List, Option}
-use Rattle.std.proofs.Common.{Some, None, length, slice_get, refl, sym, ap, subst, inl, inr, arith}
-use Rattle.std.specs.Prelude.{replicate}
-use Rattle.std.proofs.lemmas.List.{length-replicate}
-use Rattle.std.proofs.lemmas.Bool.{cases_eq, cases_lt}
-use Rattle.std.proofs.lemmas.Nat.Bits.{bit_at-zero}
+use Rattle.std.proofs.Common.{◌≡◌, ◌⊎◌, ◌∙◌, ◌+◌, ◌<◌, ◌≤◌, ℕ, zero, suc, List, Option, Some, None}
+use Rattle.std.proofs.Common.{length, slice_get, refl, sym, ap, subst, inl, inr, arith, replicate}
+use Rattle.std.proofs.lemmas.{List.length-replicate, Bool.cases_eq, Bool.cases_lt}
+use Rattle.std.proofs.lemmas.{Nat.Bits.bit_at-zero}
 use Rattle.aeth_chip.specs.Levels.{AreLevels, HasBit, HasLevel, HasLevelWithin, MarksLevel}
 use Rattle.aeth_chip.specs.Levels.{ReachesGoal}
 use Rattle.aeth_chip.proofs.ReachLemmas.{PassesRouters, reaches-none, reaches-step, step-reaches}

@@ -1,15 +1,11 @@
 -- The chip that a file tells, where its rules are kept.
-use Rattle.std.proofs.Common.{subst, ◌≡◌, ◌≤◌, ℕ, zero, suc, false, List, [], ◌∷◌}
-use Rattle.std.proofs.Common.{length, map, Option, Some, None, refl, inl, inr}
+use Rattle.std.proofs.Common.{subst, ◌≡◌, ◌≤◌, ℕ, zero, suc, false, List, [], ◌∷◌, length, map}
+use Rattle.std.proofs.Common.{Option, Some, None, refl, inl, inr, codes, slice_get, is_none, Ok}
+use Rattle.std.proofs.lemmas.{Bool.cases_Bool, List.length-map, Option.same_Some}
 use Rattle.std.specs.List.{AllByRecursion}
-use Rattle.std.specs.Prelude.{codes, slice_get, is_none, Ok}
-use Rattle.std.proofs.lemmas.Bool.{cases_Bool}
-use Rattle.std.proofs.lemmas.List.{length-map}
-use Rattle.std.proofs.lemmas.Option.{same_Some}
 use Rattle.toml.specs.Data.{Members}
 use Rattle.aeth_chip.specs.declared.node.Link.{Link}
-use Rattle.aeth_chip.specs.declared.node.Node.{Node}
-use Rattle.aeth_chip.specs.declared.node.Node.TheVariants.{Router, Ni}
+use Rattle.aeth_chip.specs.declared.node.Node.{Node, TheVariants.Router, TheVariants.Ni}
 use Rattle.aeth_chip.specs.Chip.{ChipData, IsChip, IsLinkOf, IsNode}
 use Rattle.aeth_chip.specs.ChipFile.{ends_are_known, is_in_range, keys_fit, names_differ}
 use Rattle.aeth_chip.specs.ChipFile.{nis_are_single, ports_are_few, unknown_end}
@@ -22,8 +18,7 @@ use Rattle.aeth_chip.proofs.RangeLemmas.{delays_are, in_range, names_apart, name
 use Rattle.aeth_document.specs.Values.{text_at}
 use Rattle.aeth_document.specs.Walks.{first_broken, next_place, place_of}
 use Rattle.aeth_document.proofs.ChainLemmas.{judged-none}
-use Rattle.aeth_document.proofs.WalkLemmas.{first_broken-head, first_broken-tail}
-use Rattle.aeth_document.proofs.WalkLemmas.{place_of-within}
+use Rattle.aeth_document.proofs.WalkLemmas.{first_broken-head, first_broken-tail, place_of-within}
 
 -- A node that a text names is one of the routers or network interfaces.
 node_at-IsNode : (routers nis : List (List ℕ)) (text : List ℕ) (router ni : Option ℕ) (node : Node)

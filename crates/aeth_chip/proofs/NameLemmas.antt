@@ -1,9 +1,7 @@
 -- Laws of the names of a chip.
-use Rattle.std.proofs.Common.{◌≡◌, ◌++◌, ℕ, List, [], ◌∷◌, Some}
-use Rattle.std.specs.Prelude.{position, slice_get}
-use Rattle.std.specs.List.{IsDistinct}
-use Rattle.std.specs.Str.{bytes_eq}
+use Rattle.std.proofs.Common.{◌≡◌, ◌++◌, ℕ, List, [], ◌∷◌, Some, position, slice_get}
 use Rattle.std.proofs.lemmas.Map.Keys.{IsDistinct-tail}
+use Rattle.std.specs.{List.IsDistinct, Str.bytes_eq}
 use Rattle.aeth_base.proofs.DistinctNames.{position-own}
 use Rattle.aeth_chip.specs.Chip.{ChipData, IsChip}
 

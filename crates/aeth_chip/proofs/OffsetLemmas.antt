@@ -1,15 +1,11 @@
 -- What may be known of offsets and delays: the offset of place 0 is 0, each further one adds a
 -- link's delay, and a delay is at least 1 and at most the greatest.
 use Rattle.std.proofs.Common.{◌≡◌, ◌≤◌, ◌<◌, ◌+◌, ◌*◌, ◌∙◌, ℕ, zero, suc, List, [], ◌∷◌, Option}
-use Rattle.std.proofs.Common.{None, Some, length, take, refl, ap, arith}
-use Rattle.std.specs.Prelude.{slice_get}
-use Rattle.std.proofs.lemmas.List.Sums.{sum_by-cons}
-use Rattle.std.proofs.lemmas.Option.{same_Some, slice_get-get_or}
+use Rattle.std.proofs.Common.{None, Some, length, take, refl, ap, arith, slice_get}
+use Rattle.std.proofs.lemmas.{List.Sums.sum_by-cons, Option.same_Some, Option.slice_get-get_or}
 use Rattle.std.proofs.Math.Seq.{take-length}
-use Rattle.aeth_base.specs.declared.ids.LinkId.{LinkId}
-use Rattle.aeth_chip.specs.declared.node.Link.{Link}
-use Rattle.aeth_chip.specs.declared.node.Node.TheVariants.{Router}
-use Rattle.aeth_base.specs.Limits.{max_link_delay}
+use Rattle.aeth_base.specs.{declared.ids.LinkId.LinkId, Limits.max_link_delay}
+use Rattle.aeth_chip.specs.declared.node.{Link.Link, Node.TheVariants.Router}
 use Rattle.aeth_chip.specs.Chip.{ChipData, IsChip}
 use Rattle.aeth_chip.specs.Paths.{delay_in, delay_of, offset, path_delay}
 

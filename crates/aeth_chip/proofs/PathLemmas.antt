@@ -1,12 +1,8 @@
 -- Laws of links that join a node to a node: the shortest pass no router twice.
-use Rattle.std.proofs.Common.{◌<◌, ◌≤◌, ℕ, zero, suc, List, [], ◌∷◌, length, Contains, subst}
-use Rattle.std.proofs.Common.{arith}
-use Rattle.aeth_base.specs.declared.ids.LinkId.{LinkId}
-use Rattle.aeth_base.specs.declared.ids.RouterId.{RouterId}
+use Rattle.std.proofs.Common.{◌<◌, ◌≤◌, ℕ, zero, suc, List, [], ◌∷◌, length, Contains, subst, arith}
+use Rattle.aeth_base.specs.declared.ids.{LinkId.LinkId, RouterId.RouterId}
 use Rattle.aeth_base.proofs.Members.{Contains-nil}
-use Rattle.aeth_chip.specs.declared.node.Link.{Link}
-use Rattle.aeth_chip.specs.declared.node.Node.{Node}
-use Rattle.aeth_chip.specs.declared.node.Node.TheVariants.{Router}
+use Rattle.aeth_chip.specs.declared.node.{Link.Link, Node.Node, Node.TheVariants.Router}
 use Rattle.aeth_chip.specs.Paths.{IsLinkFrom, Joins, AreDistinct}
 use Rattle.aeth_chip.proofs.JoinedLaws.{joins-first, joins-more, joins-none}
 

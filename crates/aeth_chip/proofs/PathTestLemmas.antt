@@ -1,24 +1,19 @@
 -- The test of paths decides whether a list of links is one.
-use Rattle.std.proofs.Common.{◌≡◌, ◌∙◌, Bool, true, not, List, []}
-use Rattle.std.proofs.Common.{◌∷◌, Option, Some, None, Contains, length, get_or, slice_get, refl}
-use Rattle.std.proofs.Common.{sym, ap, arith, subst}
-use Rattle.std.specs.Bool.{Decides}
-use Rattle.std.specs.List.{list_any}
-use Rattle.std.specs.Prelude.{◌==◌}
-use Rattle.std.proofs.lemmas.Bool.{and_from, and_parts, both_ways, eq-eqb, eqb-true, false≢true}
-use Rattle.std.proofs.lemmas.Bool.{false_from_ne_true, le-leb, leb-true, not-true, not_from_false}
+use Rattle.std.proofs.Common.{◌≡◌, ◌∙◌, Bool, true, not, List, [], ◌∷◌, Option, Some, None}
+use Rattle.std.proofs.Common.{Contains, length, get_or, slice_get, refl, sym, ap, arith, subst}
+use Rattle.std.proofs.Common.{◌==◌, eq-eqb, eqb-true, le-leb, leb-true}
+use Rattle.std.proofs.lemmas.Bool.{and_from, and_parts, both_ways, false≢true, false_from_ne_true}
+use Rattle.std.proofs.lemmas.Bool.{not-true, not_from_false}
 use Rattle.std.proofs.lemmas.List.Folds.{Any-from_list_any, list_any-from_Any}
+use Rattle.std.specs.{Bool.Decides, List.list_any}
 use Rattle.aeth_base.specs.Limits.{min_path_links}
-use Rattle.aeth_base.specs.declared.ids.LinkId.{LinkId}
-use Rattle.aeth_base.specs.declared.ids.NiId.{NiId}
-use Rattle.aeth_base.specs.declared.ids.RouterId.{RouterId}
+use Rattle.aeth_base.specs.declared.ids.{LinkId.LinkId, NiId.NiId, RouterId.RouterId}
 use Rattle.aeth_chip.specs.Nodes.{begins_at}
 use Rattle.aeth_chip.specs.PathTests.{comes_to, follows, is_fresh, is_path_between, is_there}
 use Rattle.aeth_chip.specs.PathTests.{link_passes}
 use Rattle.aeth_chip.specs.Paths.{AreDistinct, IsLinkFrom, IsPath, Joins}
 use Rattle.aeth_chip.specs.declared.node.Link.{Link}
-use Rattle.aeth_chip.specs.declared.node.Node.{Node}
-use Rattle.aeth_chip.specs.declared.node.Node.TheVariants.{Router, Ni}
+use Rattle.aeth_chip.specs.declared.node.Node.{Node, TheVariants.Router, TheVariants.Ni}
 use Rattle.aeth_chip.proofs.JoinedLaws.{joins-first, joins-last, joins-length, joins-more}
 use Rattle.aeth_chip.proofs.JoinedLaws.{joins-none, joins-one}
 use Rattle.aeth_chip.proofs.NodeLemmas.{same_node-refl, same_node-true}

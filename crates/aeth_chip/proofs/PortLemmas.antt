@@ -1,22 +1,17 @@
 -- The walks over routers and network interfaces.
-use Rattle.std.proofs.Common.{◌≡◌, ◌≤◌, ◌<◌, ◌+◌, ℕ, zero, suc, true, List, [], ◌∷◌, length}
-use Rattle.std.proofs.Common.{Option, Some, None, refl, sym, ap, inl, inr, arith}
-use Rattle.std.specs.Prelude.{codes, slice_get, max, count_by, option_and_then, Ok}
-use Rattle.std.proofs.lemmas.Bool.{cases_Bool, eqb-true}
-use Rattle.std.proofs.lemmas.Bool.Decides.{nat_tests}
-use Rattle.std.proofs.lemmas.Option.{same_Some}
+use Rattle.std.proofs.Common.{◌≡◌, ◌≤◌, ◌<◌, ◌+◌, ℕ, zero, suc, true, List, [], ◌∷◌, length, Option}
+use Rattle.std.proofs.Common.{Some, None, refl, sym, ap, inl, inr, arith, codes, slice_get, max}
+use Rattle.std.proofs.Common.{count_by, option_and_then, Ok, eqb-true}
+use Rattle.std.proofs.lemmas.{Bool.cases_Bool, Bool.Decides.nat_tests, Option.same_Some}
 use Rattle.std.proofs.Math.Nat.{le-max_left, le-max_right}
-use Rattle.aeth_base.specs.declared.ids.NiId.{NiId}
-use Rattle.aeth_base.specs.declared.ids.RouterId.{RouterId}
+use Rattle.aeth_base.specs.declared.{ids.NiId.NiId, ids.RouterId.RouterId, shown.Shown.Shown}
 use Rattle.aeth_chip.specs.declared.node.Link.{Link}
-use Rattle.aeth_chip.specs.declared.node.Node.{Node}
-use Rattle.aeth_chip.specs.declared.node.Node.TheVariants.{Router, Ni}
+use Rattle.aeth_chip.specs.declared.node.Node.{Node, TheVariants.Router, TheVariants.Ni}
 use Rattle.aeth_chip.specs.Chip.{HasFewPorts, IsSingle}
 use Rattle.aeth_chip.specs.ChipFile.{crowded, is_single, nis_are_single, not_single, ports_are_few}
 use Rattle.aeth_chip.specs.ChipFile.{router_at, same_router, unjoined}
 use Rattle.aeth_chip.specs.Limits.{max_ports}
 use Rattle.aeth_chip.specs.Nodes.{begins_at, ends_at, receives_on, router_of, sends_on}
-use Rattle.aeth_base.specs.declared.shown.Shown.{Shown}
 use Rattle.aeth_document.specs.Walks.{first_broken, next_place}
 use Rattle.aeth_document.proofs.ChainLemmas.{judged-none}
 use Rattle.aeth_document.proofs.WalkLemmas.{first_broken-range, first_broken-tail}

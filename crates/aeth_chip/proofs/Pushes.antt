@@ -1,6 +1,5 @@
 -- Tables with one entry more.
-use Rattle.std.proofs.Common.{◌∙◌, ◌+◌, ◌++◌, ℕ, List, [], ◌∷◌}
-use Rattle.std.proofs.Common.{sym, ap, subst, inl, inr}
+use Rattle.std.proofs.Common.{◌∙◌, ◌+◌, ◌++◌, ℕ, List, [], ◌∷◌, sym, ap, subst, inl, inr}
 use Rattle.std.proofs.lemmas.List.{length_push}
 use Rattle.aeth_base.proofs.Lists.{slice_get-push}
 use Rattle.aeth_chip.specs.Index.{HasEntries}

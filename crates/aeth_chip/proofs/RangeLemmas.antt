@@ -1,28 +1,23 @@
 -- What holds of a chip file's numbers and names where its first rules are kept.
-use Rattle.std.proofs.Common.{◌≡◌, ◌≤◌, ◌++◌, ℕ, ℤ, pos, true, false, List, [], ◌∷◌, length}
-use Rattle.std.proofs.Common.{map, All, None, refl, inl, inr, arith}
-use Rattle.std.specs.Prelude.{codes, Ok}
-use Rattle.std.specs.List.{AllByRecursion, IsDistinct}
-use Rattle.std.specs.Str.{bytes_eq}
+use Rattle.std.proofs.Common.{◌≡◌, ◌≤◌, ◌++◌, ℕ, ℤ, pos, true, false, List, [], ◌∷◌, length, map}
+use Rattle.std.proofs.Common.{All, None, refl, inl, inr, arith, codes, Ok}
 use Rattle.std.proofs.lemmas.Bool.{cases_Bool}
 use Rattle.std.proofs.lemmas.List.Elements.{All-append, All-from_recursion}
+use Rattle.std.specs.{List.AllByRecursion, List.IsDistinct, Str.bytes_eq}
 use Rattle.toml.specs.Data.{Members}
-use Rattle.aeth_base.specs.Limits.{max_link_delay, max_slots}
-use Rattle.aeth_base.specs.Name.{is_name}
+use Rattle.aeth_base.specs.{Limits.max_link_delay, Limits.max_slots, Name.is_name}
 use Rattle.aeth_chip.specs.ChipFile.{delays, end_fields, is_in_range, keys_fit, link_fields}
 use Rattle.aeth_chip.specs.ChipFile.{most_slots, names_differ, numbers, root_fields, wrong_keys}
 use Rattle.aeth_chip.specs.Limits.{max_links, max_nis, max_routers}
 use Rattle.aeth_chip.specs.Told.{allows_delays, delay_at, link_tables, nis_of, routers_of, slots_of}
 use Rattle.aeth_chip.specs.Told.{HasDelay, version_of}
-use Rattle.aeth_document.specs.Keys.{wrong_key}
-use Rattle.aeth_document.specs.Values.{integer_if}
-use Rattle.aeth_document.specs.Walks.{first_broken, next_place, no_name, outside, size_of}
-use Rattle.aeth_document.proofs.ChainLemmas.{judged-none}
-use Rattle.aeth_document.proofs.KeyLemmas.{absent}
-use Rattle.aeth_document.proofs.WalkLemmas.{distinct-from_walk}
-use Rattle.aeth_document.proofs.WalkLemmas.{first_broken-after, first_broken-before}
-use Rattle.aeth_document.proofs.WalkLemmas.{first_broken-none, first_broken-tail, names-from_walk}
-use Rattle.aeth_document.proofs.WalkLemmas.{outside-size, outside-within}
+use Rattle.aeth_document.specs.{Keys.wrong_key, Values.integer_if, Walks.first_broken}
+use Rattle.aeth_document.specs.{Walks.next_place, Walks.no_name, Walks.outside, Walks.size_of}
+use Rattle.aeth_document.proofs.{ChainLemmas.judged-none, KeyLemmas.absent}
+use Rattle.aeth_document.proofs.{WalkLemmas.distinct-from_walk, WalkLemmas.first_broken-after}
+use Rattle.aeth_document.proofs.{WalkLemmas.first_broken-before, WalkLemmas.first_broken-none}
+use Rattle.aeth_document.proofs.{WalkLemmas.first_broken-tail, WalkLemmas.names-from_walk}
+use Rattle.aeth_document.proofs.{WalkLemmas.outside-size, WalkLemmas.outside-within}
 
 -- No version has more slots than slot tables may have.
 most_slots-within : (version : ℤ) → most_slots version ≤ max_slots

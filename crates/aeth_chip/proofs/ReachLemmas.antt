@@ -2,8 +2,7 @@
 use Rattle.std.proofs.Common.{◌≡◌, ◌<◌, ◌++◌, ℕ, zero, suc, List, [], ◌∷◌, length, refl, subst}
 use Rattle.std.proofs.Common.{arith}
 use Rattle.std.specs.List.{AllByRecursion}
-use Rattle.aeth_chip.specs.Joined.{IsJoined}
-use Rattle.aeth_chip.specs.Levels.{ReachesGoal}
+use Rattle.aeth_chip.specs.{Joined.IsJoined, Levels.ReachesGoal}
 
 -- A step to the goal reaches it.
 pub reaches-one : {Step : ℕ → ℕ → Type 0} {routers goal steps : ℕ} (place : ℕ) → steps ≡ 1

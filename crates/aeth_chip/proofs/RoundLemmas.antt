@@ -1,9 +1,9 @@
 -- Laws of a round of the search, over masks: what gets a level, and what has none behind it.
-use Rattle.std.proofs.Common.{◌≡◌, ◌∙◌, ◌+◌, ◌-◌, ◌*◌, ◌%◌, ◌^◌, ◌<◌, ◌≤◌, ℕ, suc, List, Option, Some}
-use Rattle.std.proofs.Common.{None, length, min, slice_get, sym, subst, inl, inr, arith, bit_and}
+use Rattle.std.proofs.Common.{◌≡◌, ◌∙◌, ◌+◌, ◌-◌, ◌*◌, ◌%◌, ◌^◌, ◌<◌, ◌≤◌, ℕ, suc, List, Option}
+use Rattle.std.proofs.Common.{Some, None, length, min, slice_get, sym, subst, inl, inr, arith}
+use Rattle.std.proofs.Common.{bit_and}
+use Rattle.std.proofs.lemmas.{Bool.cases_eq, Nat.Bits.bit_at-trailing_zeros}
 use Rattle.std.specs.Int.{bit_not, trailing_zeros, w128}
-use Rattle.std.proofs.lemmas.Bool.{cases_eq}
-use Rattle.std.proofs.lemmas.Nat.Bits.{bit_at-trailing_zeros}
 use Rattle.aeth_chip.specs.Levels.{HasBit, IsLedFrom, IsOrigin, LeadsTo, MarksLevel}
 use Rattle.aeth_chip.proofs.LevelLemmas.{Found, IsRound}
 use Rattle.aeth_chip.proofs.MaskLemmas.{and_bit-both, and_bit-left, and_bit-right, before-has}

@@ -1,22 +1,15 @@
 -- Distinct routers on the way of links are at most as many as there are.
-use Rattle.std.proofs.Common.{◌≡◌, ◌∙◌, ◌+◌, ◌<◌, ◌≤◌, ℕ, suc, false, eqb, List, [], ◌∷◌}
-use Rattle.std.proofs.Common.{length, map, Contains, sym, ap, subst, inl, inr, arith}
+use Rattle.std.proofs.Common.{◌≡◌, ◌∙◌, ◌+◌, ◌<◌, ◌≤◌, ℕ, suc, false, eqb, List, [], ◌∷◌, length}
+use Rattle.std.proofs.Common.{map, Contains, sym, ap, subst, inl, inr, arith, eqb-true, ne_eqb}
+use Rattle.std.proofs.lemmas.List.{length-map, Elements.Contains-append_left}
+use Rattle.std.proofs.lemmas.Map.{Steps.length-le_from_distinct_below, Views.Contains-from_any}
 use Rattle.std.specs.List.{AllByRecursion, IsDistinct}
-use Rattle.std.proofs.lemmas.Bool.{eqb-true, ne_eqb}
-use Rattle.std.proofs.lemmas.List.{length-map}
-use Rattle.std.proofs.lemmas.List.Elements.{Contains-append_left}
-use Rattle.std.proofs.lemmas.Map.Steps.{length-le_from_distinct_below}
-use Rattle.std.proofs.lemmas.Map.Views.{Contains-from_any}
 use Rattle.aeth_base.proofs.Members.{Contains-cases, Contains-map, map-Contains}
-use Rattle.aeth_base.specs.declared.ids.LinkId.{LinkId}
-use Rattle.aeth_base.specs.declared.ids.RouterId.{RouterId}
-use Rattle.aeth_chip.specs.declared.node.Link.{Link}
-use Rattle.aeth_chip.specs.declared.node.Node.{Node}
-use Rattle.aeth_chip.specs.declared.node.Node.TheVariants.{Router}
-use Rattle.aeth_chip.specs.Distances.{AreBelow}
-use Rattle.aeth_chip.specs.Nodes.{IsBelow}
-use Rattle.aeth_chip.specs.Paths.{AreDistinct, BeginsAt, Joins, to_of}
-use Rattle.aeth_chip.proofs.JoinedLaws.{joined-each}
+use Rattle.aeth_base.specs.declared.ids.{LinkId.LinkId, RouterId.RouterId}
+use Rattle.aeth_chip.{specs.declared.node.Link.Link, specs.declared.node.Node.Node}
+use Rattle.aeth_chip.{specs.declared.node.Node.TheVariants.Router, specs.Distances.AreBelow}
+use Rattle.aeth_chip.{specs.Nodes.IsBelow, specs.Paths.AreDistinct, specs.Paths.BeginsAt}
+use Rattle.aeth_chip.{specs.Paths.Joins, specs.Paths.to_of, proofs.JoinedLaws.joined-each}
 
 -- A router that is not in a list differs from each that is.
 apart : (r : RouterId) (routers : List RouterId) → (Contains routers r → ⊥)

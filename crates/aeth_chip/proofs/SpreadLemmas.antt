@@ -2,10 +2,9 @@
 use Rattle.std.proofs.Common.{◌≡◌, ◌⊎◌, ◌∙◌, ◌+◌, ◌<◌, ◌≤◌, ℕ, zero, suc, List, [], ◌∷◌, Option}
 use Rattle.std.proofs.Common.{Some, None, length, get_or, slice_get, refl, sym, ap, subst, inl, inr}
 use Rattle.std.proofs.Common.{arith, zero-add, ◌-◌, ◌/◌, ◌%◌, ◌^◌}
-use Rattle.std.specs.Int.{bit_at}
-use Rattle.std.specs.List.{slice_set}
 use Rattle.std.proofs.lemmas.Bool.{cases_eq, cases_lt}
 use Rattle.std.proofs.lemmas.Option.{same_Some, slice_get-get_or}
+use Rattle.std.specs.{Int.bit_at, List.slice_set}
 use Rattle.aeth_base.proofs.Lists.{slice_get-slice_set_other, slice_get-slice_set_same}
 use Rattle.aeth_chip.specs.Levels.{HasBit, HasLevel, MarksFrom, MarksLevel, half_places}
 use Rattle.aeth_chip.proofs.MaskLemmas.{bit-cases, has-high, has-low, high-has, low-has}

@@ -2,9 +2,8 @@
 use Rattle.std.proofs.Common.{◌≡◌, ◌<◌, ◌≤◌, ◌+◌, ◌-◌, ◌*◌, ◌^◌, ℕ, List, Some, length, take}
 use Rattle.std.proofs.Common.{slice_get, refl, ap, arith}
 use Rattle.aeth_base.specs.Limits.{max_link_delay}
-use Rattle.aeth_chip.specs.Limits.{max_links}
-use Rattle.aeth_chip.specs.Wires.{HaveDelays, further_wires, wires_of}
-use Rattle.aeth_chip.specs.declared.node.Link.{Link}
+use Rattle.aeth_chip.specs.{Limits.max_links, Wires.HaveDelays, Wires.further_wires, Wires.wires_of}
+use Rattle.aeth_chip.specs.{declared.node.Link.Link}
 use Rattle.aeth_chip.proofs.WireLemmas.{sum_by-take_more}
 
 -- The further wires and the wires of the first so many links.

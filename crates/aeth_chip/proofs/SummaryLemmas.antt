@@ -2,21 +2,18 @@
 -- and how many pairs have no path at most.
 use Rattle.std.proofs.Common.{◌≡◌, ◌∙◌, ◌+◌, ◌*◌, ◌<◌, ◌≤◌, ◌++◌, ℕ, zero, suc, cond, max, List, []}
 use Rattle.std.proofs.Common.{◌∷◌, Option, Some, None, length, sym, ap, add-one, append_assoc}
-use Rattle.std.proofs.Common.{length-append, arith}
-use Rattle.std.specs.Prelude.{count_by, fold, filter_map, flat_map}
-use Rattle.std.specs.List.{range_with_len}
-use Rattle.std.specs.Option.{is_none}
-use Rattle.std.proofs.lemmas.List.{append-nil, flat_map_more, length-map}
-use Rattle.std.proofs.lemmas.List.Elements.{filter_map-append}
-use Rattle.std.proofs.lemmas.List.FromFn.{length-range_with_len, map-range_with_len_more}
-use Rattle.std.proofs.lemmas.List.Sums.{count_by-le-length, fold-append}
+use Rattle.std.proofs.Common.{length-append, arith, count_by, fold, filter_map, flat_map}
+use Rattle.std.proofs.Common.{append-nil}
+use Rattle.std.proofs.lemmas.List.{flat_map_more, length-map, Elements.filter_map-append}
+use Rattle.std.proofs.lemmas.List.{FromFn.length-range_with_len, FromFn.map-range_with_len_more}
+use Rattle.std.proofs.lemmas.List.{Sums.count_by-le-length, Sums.fold-append}
 use Rattle.std.proofs.Math.Nat.{mul-le-mul}
+use Rattle.std.specs.{List.range_with_len, Option.is_none}
 use Rattle.aeth_base.proofs.Ranges.{range_with_len-more}
-use Rattle.aeth_chip.specs.declared.chip.TheConstants.{MAX_NIS}
-use Rattle.aeth_chip.specs.Chip.{ChipData}
-use Rattle.aeth_chip.specs.LeastDistance.{least_distance}
-use Rattle.aeth_chip.specs.Summary.{distances_to, distances_among, distances_of, greatest_of}
-use Rattle.aeth_chip.specs.Summary.{far_of, unreached_of}
+use Rattle.aeth_chip.specs.{declared.chip.TheConstants.MAX_NIS, Chip.ChipData}
+use Rattle.aeth_chip.specs.{LeastDistance.least_distance, Summary.distances_to}
+use Rattle.aeth_chip.specs.{Summary.distances_among, Summary.distances_of, Summary.greatest_of}
+use Rattle.aeth_chip.specs.{Summary.far_of, Summary.unreached_of}
 
 -- One more number that is there.
 pub greatest_of-some : (numbers : List (Option ℕ)) (number : ℕ)

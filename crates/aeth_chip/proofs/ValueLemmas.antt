@@ -1,14 +1,9 @@
 -- What a table with another value at a key has, and which of its keys are wrong.
-use Rattle.std.proofs.Common.{◌≡◌, ◌∙◌, ℕ, true, false, List, [], ◌∷◌, Some, None}
-use Rattle.std.proofs.Common.{Less, Equal, Greater, Ordering, nat_cmp, refl, sym, inl, inr}
-use Rattle.std.specs.Prelude.{is_none}
-use Rattle.std.specs.Cmp.Lexicographic.{slice_cmp}
-use Rattle.std.specs.Ordering.{is_eq}
-use Rattle.std.specs.Str.{bytes_eq}
-use Rattle.std.proofs.lemmas.Bool.{cases_Bool}
-use Rattle.std.proofs.lemmas.Map.Lookups.{exact_bytes}
-use Rattle.std.proofs.lemmas.Map.Text.{is_eq-slice_cmp}
-use Rattle.std.proofs.lemmas.Option.{same_Some}
+use Rattle.std.proofs.Common.{◌≡◌, ◌∙◌, ℕ, true, false, List, [], ◌∷◌, Some, None, Less, Equal}
+use Rattle.std.proofs.Common.{Greater, Ordering, nat_cmp, refl, sym, inl, inr, is_none}
+use Rattle.std.proofs.lemmas.{Bool.cases_Bool, Map.Lookups.exact_bytes, Map.Text.is_eq-slice_cmp}
+use Rattle.std.proofs.lemmas.{Option.same_Some}
+use Rattle.std.specs.{Cmp.Lexicographic.slice_cmp, Ordering.is_eq, Str.bytes_eq}
 use Rattle.toml.specs.Data.{Data, Members, get_member, member, no_members, same_key}
 use Rattle.aeth_chip.specs.Versions.{with_value}
 use Rattle.aeth_document.specs.Keys.{Fields, entries_of, is_expected, is_missing, is_optional}

@@ -1,12 +1,11 @@
 -- A file of version 1 tells the same chip as one of version 2.
 use Rattle.std.proofs.Common.{◌≡◌, ◌++◌, ℕ, ℤ, pos, negsuc, false, List, [], ◌∷◌, length, map}
-use Rattle.std.proofs.Common.{Option, Some, None, refl, ap, arith}
-use Rattle.std.specs.Prelude.{codes, option_and_then, unwrap_or, Ok}
+use Rattle.std.proofs.Common.{Option, Some, None, refl, ap, arith, codes, option_and_then}
+use Rattle.std.proofs.Common.{unwrap_or, Ok}
 use Rattle.std.specs.List.{AllByRecursion}
 use Rattle.toml.specs.Data.{Data, Members, as_integer, get_member, string, integer, float, boolean}
 use Rattle.toml.specs.Data.{datetime, array, table, same_key}
-use Rattle.aeth_base.specs.Limits.{max_link_delay, max_slots}
-use Rattle.aeth_base.specs.declared.shown.Shown.{Shown}
+use Rattle.aeth_base.specs.{Limits.max_link_delay, Limits.max_slots, declared.shown.Shown.Shown}
 use Rattle.aeth_chip.specs.Chip.{ChipData}
 use Rattle.aeth_chip.specs.ChipFile.{chip_in, chip_of, delays, end_fields, ends_are_known}
 use Rattle.aeth_chip.specs.ChipFile.{is_in_range, keys_fit, link_fields, judged_links, names_differ}
@@ -15,18 +14,15 @@ use Rattle.aeth_chip.specs.Limits.{max_links, max_nis, max_routers, max_slots_of
 use Rattle.aeth_chip.specs.Told.{delay_at, link_tables, nis_of, routers_of, slots_of, told_chip}
 use Rattle.aeth_chip.specs.Told.{version_of}
 use Rattle.aeth_chip.specs.Versions.{in_version_2}
-use Rattle.aeth_chip.proofs.FileLemmas.{kept_first}
-use Rattle.aeth_chip.proofs.RangeLemmas.{delays_are_1, in_range}
-use Rattle.aeth_chip.proofs.ValueLemmas.{get_member-other, get_member-own, wrong_key-absent}
-use Rattle.aeth_chip.proofs.ValueLemmas.{wrong_key-kept}
-use Rattle.aeth_document.specs.Document.{document_of}
-use Rattle.aeth_document.specs.Keys.{wrong_key}
-use Rattle.aeth_document.specs.Values.{integer_at, items_at}
-use Rattle.aeth_document.specs.Walks.{first_broken, judged, next_place, no_name, outside}
-use Rattle.aeth_document.proofs.ChainLemmas.{judged-none}
-use Rattle.aeth_document.proofs.KeyLemmas.{absent}
-use Rattle.aeth_document.proofs.WalkLemmas.{first_broken-all, first_broken-head, first_broken-none}
-use Rattle.aeth_document.proofs.WalkLemmas.{first_broken-tail}
+use Rattle.aeth_chip.proofs.{FileLemmas.kept_first, RangeLemmas.delays_are_1, RangeLemmas.in_range}
+use Rattle.aeth_chip.proofs.{ValueLemmas.get_member-other, ValueLemmas.get_member-own}
+use Rattle.aeth_chip.proofs.{ValueLemmas.wrong_key-absent, ValueLemmas.wrong_key-kept}
+use Rattle.aeth_document.specs.{Document.document_of, Keys.wrong_key, Values.integer_at}
+use Rattle.aeth_document.specs.{Values.items_at, Walks.first_broken, Walks.judged, Walks.next_place}
+use Rattle.aeth_document.specs.{Walks.no_name, Walks.outside}
+use Rattle.aeth_document.proofs.{ChainLemmas.judged-none, KeyLemmas.absent}
+use Rattle.aeth_document.proofs.{WalkLemmas.first_broken-all, WalkLemmas.first_broken-head}
+use Rattle.aeth_document.proofs.{WalkLemmas.first_broken-none, WalkLemmas.first_broken-tail}
 use Rattle.aeth_document.specs.declared.keys.Kind.TheVariants as kind
 
 -- ---- what the root tells

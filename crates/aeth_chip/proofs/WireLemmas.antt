@@ -1,17 +1,12 @@
 -- Laws of wires: how many there are, and that those of different links differ.
-use Rattle.std.proofs.Common.{◌≡◌, ◌≢◌, ◌≤◌, ◌<◌, ◌+◌, ◌-◌, ◌*◌, ℕ, zero, suc, List, []}
-use Rattle.std.proofs.Common.{◌∷◌, Option, Some, None, length, take, refl, arith}
-use Rattle.std.proofs.Common.{ap, inl, inr}
-use Rattle.std.specs.Prelude.{slice_get, sum_by}
-use Rattle.std.proofs.lemmas.Bool.{cases_lt}
-use Rattle.std.proofs.lemmas.List.Sums.{sum_by-cons}
-use Rattle.std.proofs.lemmas.Option.{same_Some}
-use Rattle.aeth_base.specs.Limits.{max_link_delay}
-use Rattle.aeth_base.specs.declared.ids.LinkId.{LinkId}
-use Rattle.aeth_chip.specs.Chip.{ChipData, IsChip}
-use Rattle.aeth_chip.specs.Paths.{delay_in, delay_of}
-use Rattle.aeth_chip.specs.Wires.{HaveDelays, further_wires, wire_at, wires_of}
-use Rattle.aeth_chip.specs.declared.node.Link.{Link}
+use Rattle.std.proofs.Common.{◌≡◌, ◌≢◌, ◌≤◌, ◌<◌, ◌+◌, ◌-◌, ◌*◌, ℕ, zero, suc, List, [], ◌∷◌}
+use Rattle.std.proofs.Common.{Option, Some, None, length, take, refl, arith, ap, inl, inr}
+use Rattle.std.proofs.Common.{slice_get, sum_by}
+use Rattle.std.proofs.lemmas.{Bool.cases_lt, List.Sums.sum_by-cons, Option.same_Some}
+use Rattle.aeth_base.specs.{Limits.max_link_delay, declared.ids.LinkId.LinkId}
+use Rattle.aeth_chip.specs.{Chip.ChipData, Chip.IsChip, Paths.delay_in, Paths.delay_of}
+use Rattle.aeth_chip.specs.{Wires.HaveDelays, Wires.further_wires, Wires.wire_at, Wires.wires_of}
+use Rattle.aeth_chip.specs.{declared.node.Link.Link}
 
 -- The sum over one more element of a list.
 pub sum_by-take_more : {X : Type 0} (f : X → ℕ) (xs : List X) (i : ℕ) (x : X)

@@ -1,17 +1,13 @@
 -- What a chip is seen as, and what holds of every chip.
 -- This project's own.
-use Rattle.std.specs.Prelude.{◌≡◌, ◌≤◌, ◌<◌, ℕ, ◌∷◌, ◌++◌, [], List, length, slice_get, count_by}
-use Rattle.std.specs.Prelude.{All, Some, true}
-use Rattle.std.specs.List.{IsDistinct}
-use Rattle.std.specs.Str.{bytes_eq}
+use Rattle.std.proofs.Common.{◌≡◌, ◌≤◌, ◌<◌, ℕ, ◌∷◌, ◌++◌, [], List, length, slice_get, count_by}
+use Rattle.std.proofs.Common.{All, Some, true}
+use Rattle.std.specs.{List.IsDistinct, Str.bytes_eq}
 use Rattle.aeth_base.specs.Limits.{max_link_delay, max_slots}
 use Rattle.aeth_base.specs.Name.{is_name}
-use Rattle.aeth_base.specs.declared.ids.LinkId.{LinkId}
-use Rattle.aeth_base.specs.declared.ids.NiId.{NiId}
-use Rattle.aeth_base.specs.declared.ids.RouterId.{RouterId}
+use Rattle.aeth_base.specs.declared.ids.{LinkId.LinkId, NiId.NiId, RouterId.RouterId}
 use Rattle.aeth_chip.specs.declared.node.Link.{Link}
-use Rattle.aeth_chip.specs.declared.node.Node.{Node}
-use Rattle.aeth_chip.specs.declared.node.Node.TheVariants.{Router, Ni}
+use Rattle.aeth_chip.specs.declared.node.Node.{Node, TheVariants.Router, TheVariants.Ni}
 use Rattle.aeth_chip.specs.Limits.{max_links, max_nis, max_ports, max_routers}
 use Rattle.aeth_chip.specs.Nodes.{begins_at, ends_at, sends_on, receives_on}
 

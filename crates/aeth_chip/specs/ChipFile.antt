@@ -8,17 +8,15 @@
 --   judged_links    the links of a root table, by rules 5 to 7
 --   chip_in, chip_of    the chip of a root table, and of a file's bytes
 -- This project's own.
-use Rattle.std.specs.Prelude.{ℕ, ◌+◌, ℤ, pos, codes, Bool, false, List, [], ◌∷◌, ◌++◌, map, length}
-use Rattle.std.specs.Prelude.{max, nat_le, ◌==◌, count_by, slice_get, Option, Some, None}
-use Rattle.std.specs.Prelude.{option_and_then, is_none, Result, Ok, Err, if◌then◌else◌}
+use Rattle.std.proofs.Common.{ℕ, ◌+◌, ℤ, pos, codes, Bool, false, List, [], ◌∷◌, ◌++◌, map, length}
+use Rattle.std.proofs.Common.{max, nat_le, ◌==◌, count_by, slice_get, Option, Some, None}
+use Rattle.std.proofs.Common.{option_and_then, is_none, Result, Ok, Err, if◌then◌else◌}
 use Rattle.std.specs.List.{range_with_len}
 use Rattle.toml.specs.Data.{Members}
-use Rattle.aeth_base.specs.Faults.{BrokenRule, broken_as}
-use Rattle.aeth_base.specs.Limits.{max_link_delay, max_slots}
-use Rattle.aeth_base.specs.Shown.{shown_text}
-use Rattle.aeth_base.specs.declared.ids.RouterId.{RouterId}
-use Rattle.aeth_base.specs.declared.shown.Shown.{Shown}
-use Rattle.aeth_base.specs.declared.shown.Shown.TheVariants.{Nothing, Number}
+use Rattle.aeth_base.specs.{Faults.BrokenRule, Faults.broken_as, Limits.max_link_delay}
+use Rattle.aeth_base.specs.{Limits.max_slots, Shown.shown_text, declared.ids.RouterId.RouterId}
+use Rattle.aeth_base.specs.{declared.shown.Shown.Shown, declared.shown.Shown.TheVariants.Nothing}
+use Rattle.aeth_base.specs.{declared.shown.Shown.TheVariants.Number}
 use Rattle.aeth_chip.specs.Chip.{ChipData}
 use Rattle.aeth_chip.specs.Limits.{max_links, max_nis, max_ports, max_routers}
 use Rattle.aeth_chip.specs.Limits.{max_slots_of_version_1}
@@ -26,13 +24,10 @@ use Rattle.aeth_chip.specs.Nodes.{begins_at, ends_at, sends_on, receives_on, rou
 use Rattle.aeth_chip.specs.Told.{allows_delays, delay_at, link_tables, nis_of, node_of, routers_of}
 use Rattle.aeth_chip.specs.Told.{slots_of, told_chip, told_links, version_of}
 use Rattle.aeth_chip.specs.declared.node.Link.{Link}
-use Rattle.aeth_chip.specs.declared.node.Node.{Node}
-use Rattle.aeth_chip.specs.declared.node.Node.TheVariants.{Router, Ni}
-use Rattle.aeth_document.specs.Chain.{◌>>=◌}
-use Rattle.aeth_document.specs.Document.{document_of}
-use Rattle.aeth_document.specs.Keys.{Fields, wrong_key}
-use Rattle.aeth_document.specs.Values.{text_at}
-use Rattle.aeth_document.specs.Walks.{first_broken, judged, no_name, outside, repeats}
+use Rattle.aeth_chip.specs.declared.node.Node.{Node, TheVariants.Router, TheVariants.Ni}
+use Rattle.aeth_document.specs.{Chain.◌>>=◌, Document.document_of, Keys.Fields, Keys.wrong_key}
+use Rattle.aeth_document.specs.{Values.text_at, Walks.first_broken, Walks.judged, Walks.no_name}
+use Rattle.aeth_document.specs.{Walks.outside, Walks.repeats}
 use Rattle.aeth_document.specs.declared.keys.Kind.TheVariants as kind
 
 -- ---- rule 1

@@ -1,12 +1,11 @@
 -- The rule that each fault of a chip file shows.
 -- This project's own.
-use Rattle.std.specs.Prelude.{codes, Option, Some, None}
+use Rattle.std.proofs.Common.{codes, Option, Some, None}
 use Rattle.aeth_base.specs.Faults.{BrokenRule, broken_as}
 use Rattle.aeth_chip.specs.declared.fault.ChipFault.{ChipFault}
 use Rattle.aeth_chip.specs.declared.fault.ChipFault.TheVariants.{BadToml, WrongKey, OutOfRange}
 use Rattle.aeth_chip.specs.declared.fault.ChipFault.TheVariants.{NameTwice, UnknownName}
-use Rattle.aeth_chip.specs.declared.fault.ChipFault.TheVariants.{TooManyPorts, NiNotSingle}
-use Rattle.aeth_chip.specs.declared.fault.ChipFault.TheVariants.{Memory}
+use Rattle.aeth_chip.specs.declared.fault.ChipFault.TheVariants.{TooManyPorts, NiNotSingle, Memory}
 
 -- The rule by its number and its name, with the place and the value; none for want of memory.
 abbrev pub rule_of : ChipFault → Option BrokenRule

@@ -9,31 +9,23 @@
 --   AreEndsAndWires, IsIndex      both, and the index whole
 --
 -- This project's own.
-use Rattle.std.specs.Prelude.{◌≡◌, ◌<◌, ℕ, List, [], ◌∷◌, Option, Some, None, length, map}
-use Rattle.std.specs.Prelude.{slice_get, take, count_by, max, nat_le, if◌then◌else◌}
-use Rattle.std.specs.declared.vec.Vec.{Vec}
-use Rattle.std.specs.declared.alloc.Global.{Global}
-use Rattle.aeth_base.specs.declared.ids.LinkId.{LinkId}
-use Rattle.aeth_base.specs.declared.ids.RouterId.{RouterId}
-use Rattle.aeth_base.specs.declared.shown.Shown.{Shown}
-use Rattle.aeth_base.specs.declared.shown.Shown.TheVariants.{Number}
+use Rattle.std.proofs.Common.{◌≡◌, ◌<◌, ℕ, List, [], ◌∷◌, Option, Some, None, length, map}
+use Rattle.std.proofs.Common.{slice_get, take, count_by, max, nat_le, if◌then◌else◌}
+use Rattle.std.specs.declared.{vec.Vec.Vec, alloc.Global.Global}
+use Rattle.aeth_base.specs.declared.ids.{LinkId.LinkId, RouterId.RouterId}
+use Rattle.aeth_base.specs.declared.shown.Shown.{Shown, TheVariants.Number}
 use Rattle.aeth_chip.specs.Limits.{max_ports}
 use Rattle.aeth_chip.specs.Nodes.{begins_at, has_end, numbers_from, receives_on, same_node}
 use Rattle.aeth_chip.specs.Nodes.{sender_of, sends_on}
 use Rattle.aeth_chip.specs.Wires.{further_wires, wires_of}
-use Rattle.aeth_chip.specs.declared.index.Ends.{Ends}
-use Rattle.aeth_chip.specs.declared.index.EndsAndWires.{EndsAndWires}
-use Rattle.aeth_chip.specs.declared.index.Index.{Index}
-use Rattle.aeth_chip.specs.declared.lists.ListedLinks.{ListedLinks}
-use Rattle.aeth_chip.specs.declared.lists.NiLink.{NiLink}
-use Rattle.aeth_chip.specs.declared.lists.NiLink.TheVariants.{Missing, One, Several}
-use Rattle.aeth_chip.specs.declared.lists.NiLinks.{NiLinks}
-use Rattle.aeth_chip.specs.declared.lists.RouterLinks.{RouterLinks}
-use Rattle.aeth_chip.specs.declared.node.End.{End}
-use Rattle.aeth_chip.specs.declared.node.End.TheVariants.{From, To}
+use Rattle.aeth_chip.specs.declared.index.{Ends.Ends, EndsAndWires.EndsAndWires, Index.Index}
+use Rattle.aeth_chip.specs.declared.lists.{ListedLinks.ListedLinks, NiLink.NiLink}
+use Rattle.aeth_chip.specs.declared.lists.{NiLink.TheVariants.Missing, NiLink.TheVariants.One}
+use Rattle.aeth_chip.specs.declared.lists.{NiLink.TheVariants.Several, NiLinks.NiLinks}
+use Rattle.aeth_chip.specs.declared.lists.{RouterLinks.RouterLinks}
+use Rattle.aeth_chip.specs.declared.node.End.{End, TheVariants.From, TheVariants.To}
 use Rattle.aeth_chip.specs.declared.node.Link.{Link}
-use Rattle.aeth_chip.specs.declared.node.Node.{Node}
-use Rattle.aeth_chip.specs.declared.node.Node.TheVariants.{Router, Ni}
+use Rattle.aeth_chip.specs.declared.node.Node.{Node, TheVariants.Router, TheVariants.Ni}
 
 -- A list has an entry for each number below a count, and each entry what is asked at its place.
 pub record HasEntries {X : Type 0} (P : ℕ → X → Type 0) (count : ℕ) (entries : List X) : Type 0 where

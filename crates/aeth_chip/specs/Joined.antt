@@ -4,7 +4,7 @@
 --   IsJoined      the elements of a list are joined from a node on
 --   end_of      where joined elements end
 -- This project's own.
-use Rattle.std.specs.Prelude.{List, [], ◌∷◌}
+use Rattle.std.proofs.Common.{List, [], ◌∷◌}
 
 -- The elements of a list are joined from a node on: the first begins at the node, and each further
 -- one where the one before it ends. `Begins` tells what begins at a node, and `to` where it ends.

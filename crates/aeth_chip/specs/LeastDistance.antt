@@ -4,15 +4,12 @@
 --   has_path      whether some list of so many links is a path
 --   below, least_distance      the least number of links from an interface to an interface
 -- This project's own.
-use Rattle.std.specs.Prelude.{ℕ, zero, suc, ◌+◌, Bool, List, [], ◌∷◌, Option, Some, None, length}
-use Rattle.std.specs.Prelude.{map, nat_lt, if◌then◌else◌}
+use Rattle.std.proofs.Common.{ℕ, zero, suc, ◌+◌, Bool, List, [], ◌∷◌, Option, Some, None, length}
+use Rattle.std.proofs.Common.{map, nat_lt, if◌then◌else◌}
 use Rattle.std.specs.List.{flat_map, list_any, range_with_len}
 use Rattle.aeth_base.specs.Extremes.{least_below}
-use Rattle.aeth_base.specs.declared.ids.LinkId.{LinkId}
-use Rattle.aeth_base.specs.declared.ids.NiId.{NiId}
-use Rattle.aeth_chip.specs.declared.node.Link.{Link}
-use Rattle.aeth_chip.specs.Chip.{ChipData}
-use Rattle.aeth_chip.specs.PathTests.{is_path_between}
+use Rattle.aeth_base.specs.declared.ids.{LinkId.LinkId, NiId.NiId}
+use Rattle.aeth_chip.specs.{declared.node.Link.Link, Chip.ChipData, PathTests.is_path_between}
 
 -- All lists of so many elements of a list.
 abbrev pub lists_of : {X : Type 0} → ℕ → List X → List (List X)

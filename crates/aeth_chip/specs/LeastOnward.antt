@@ -4,15 +4,12 @@
 --   least_onward      the least number of links from a router to an interface
 --   least_from      the same from a node, be it a router or an interface
 -- This project's own.
-use Rattle.std.specs.Prelude.{ℕ, ◌+◌, ◌&&◌, Bool, List, Option, length}
+use Rattle.std.proofs.Common.{ℕ, ◌+◌, ◌&&◌, Bool, List, Option, length}
 use Rattle.std.specs.List.{list_any}
 use Rattle.aeth_base.specs.Extremes.{least_below}
-use Rattle.aeth_base.specs.declared.ids.LinkId.{LinkId}
-use Rattle.aeth_base.specs.declared.ids.NiId.{NiId}
-use Rattle.aeth_base.specs.declared.ids.RouterId.{RouterId}
+use Rattle.aeth_base.specs.declared.ids.{LinkId.LinkId, NiId.NiId, RouterId.RouterId}
 use Rattle.aeth_chip.specs.declared.node.Link.{Link}
-use Rattle.aeth_chip.specs.declared.node.Node.{Node}
-use Rattle.aeth_chip.specs.declared.node.Node.TheVariants.{Router, Ni}
+use Rattle.aeth_chip.specs.declared.node.Node.{Node, TheVariants.Router, TheVariants.Ni}
 use Rattle.aeth_chip.specs.Chip.{ChipData}
 use Rattle.aeth_chip.specs.LeastDistance.{below, least_distance, link_ids, lists_of}
 use Rattle.aeth_chip.specs.PathTests.{follows, is_fresh}

@@ -1,6 +1,6 @@
 -- The limits of chips. Those of slot tables and of the delays of links are aeth_base's.
 -- This project's own.
-use Rattle.std.specs.Prelude.{◌+◌, ℕ}
+use Rattle.std.proofs.Common.{◌+◌, ℕ}
 
 -- In a file of version 1 a slot table has at most so many slots; in one of version 2 it may have
 -- `max_slots`.

@@ -1,9 +1,8 @@
 -- The ends of a link as a file names them.
 -- This project's own.
-use Rattle.std.specs.Prelude.{◌≡◌, ℕ, List}
+use Rattle.std.proofs.Common.{◌≡◌, ℕ, List}
 use Rattle.aeth_chip.specs.Told.{node_of}
-use Rattle.aeth_chip.specs.declared.links.NamedEnd.{NamedEnd}
-use Rattle.aeth_chip.specs.declared.links.NamedEnds.{NamedEnds}
+use Rattle.aeth_chip.specs.declared.links.{NamedEnd.NamedEnd, NamedEnds.NamedEnds}
 
 -- The node is the one that the text names.
 abbrev pub IsNamed : List (List ℕ) → List (List ℕ) → NamedEnd → Type 0

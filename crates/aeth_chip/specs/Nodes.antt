@@ -6,14 +6,12 @@
 --   router_of, is_router, sender_of    the router that a node is, and that sends on a link
 --   IsBelow, IsNiBelow    whether a node's router, or its interface, is one of so many
 -- This project's own.
-use Rattle.std.specs.Prelude.{ℕ, ◌+◌, ◌<◌, ◌==◌, Bool, true, false, List, [], ◌∷◌, Option, Some}
-use Rattle.std.specs.Prelude.{None, option_and_then, slice_get, if◌then◌else◌}
+use Rattle.std.proofs.Common.{ℕ, ◌+◌, ◌<◌, ◌==◌, Bool, true, false, List, [], ◌∷◌, Option, Some}
+use Rattle.std.proofs.Common.{None, option_and_then, slice_get, if◌then◌else◌}
 use Rattle.aeth_base.specs.declared.ids.RouterId.{RouterId}
-use Rattle.aeth_chip.specs.declared.node.End.{End}
-use Rattle.aeth_chip.specs.declared.node.End.TheVariants.{From, To}
+use Rattle.aeth_chip.specs.declared.node.End.{End, TheVariants.From, TheVariants.To}
 use Rattle.aeth_chip.specs.declared.node.Link.{Link}
-use Rattle.aeth_chip.specs.declared.node.Node.{Node}
-use Rattle.aeth_chip.specs.declared.node.Node.TheVariants.{Router, Ni}
+use Rattle.aeth_chip.specs.declared.node.Node.{Node, TheVariants.Router, TheVariants.Ni}
 
 -- Whether two nodes are one.
 abbrev pub same_node : Node → Node → Bool

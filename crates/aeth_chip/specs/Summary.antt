@@ -5,12 +5,10 @@
 --   greatest_of      the greatest number of a list
 --   far_of, unreached_of      the greatest of a chip's, and how many pairs have none
 -- This project's own.
-use Rattle.std.specs.Prelude.{ℕ, List, Option, length, map, max, fold, flat_map, filter_map}
-use Rattle.std.specs.Prelude.{count_by}
-use Rattle.std.specs.List.{range_with_len}
-use Rattle.std.specs.Option.{is_none}
-use Rattle.aeth_chip.specs.Chip.{ChipData}
-use Rattle.aeth_chip.specs.LeastDistance.{least_distance}
+use Rattle.std.proofs.Common.{ℕ, List, Option, length, map, max, fold, flat_map, filter_map}
+use Rattle.std.proofs.Common.{count_by}
+use Rattle.std.specs.{List.range_with_len, Option.is_none}
+use Rattle.aeth_chip.specs.{Chip.ChipData, LeastDistance.least_distance}
 
 -- The least numbers of links to an interface from each of the first so many.
 abbrev pub distances_to : ChipData → ℕ → ℕ → List (Option ℕ)

@@ -3,13 +3,12 @@
 --   version_of, allows_delays, slots_of, routers_of, nis_of, link_tables    the root's keys
 --   node_of, link_of, told_chip    nodes and links by the names of their ends
 -- This project's own.
-use Rattle.std.specs.Prelude.{◌≤◌, ℕ, ℤ, pos, negsuc, ◌==◌, codes, Bool, false, List, map}
-use Rattle.std.specs.Prelude.{Option, Some, None, unwrap_or}
+use Rattle.std.proofs.Common.{◌≤◌, ℕ, ℤ, pos, negsuc, ◌==◌, codes, Bool, false, List, map, Option}
+use Rattle.std.proofs.Common.{Some, None, unwrap_or}
 use Rattle.toml.specs.Data.{Members}
 use Rattle.aeth_base.specs.Limits.{max_link_delay}
 use Rattle.aeth_chip.specs.declared.node.Link.{Link}
-use Rattle.aeth_chip.specs.declared.node.Node.{Node}
-use Rattle.aeth_chip.specs.declared.node.Node.TheVariants.{Router, Ni}
+use Rattle.aeth_chip.specs.declared.node.Node.{Node, TheVariants.Router, TheVariants.Ni}
 use Rattle.aeth_chip.specs.Chip.{ChipData}
 use Rattle.aeth_document.specs.Values.{integer_at, integer_if, tables_at, text_at, texts_at}
 use Rattle.aeth_document.specs.Walks.{place_of, size_of}

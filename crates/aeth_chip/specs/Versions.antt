@@ -1,6 +1,6 @@
 -- A file of version 1 as one of version 2.
 -- This project's own.
-use Rattle.std.specs.Prelude.{ℕ, pos, codes, List, if◌then◌else◌}
+use Rattle.std.proofs.Common.{ℕ, pos, codes, List, if◌then◌else◌}
 use Rattle.toml.specs.Data.{Data, Members, integer, member, no_members, same_key}
 
 -- A table with another value at a key that stands there.

@@ -1,43 +1,34 @@
 -- Laws of the commands that words are.
-use Rattle.std.proofs.Common.{◌≡◌, ◌≤◌, ℕ, Bool, true, false, List, [], ◌∷◌, Option, Some, None, Result}
-use Rattle.std.proofs.Common.{if◌then◌else◌, refl, subst, sym}
-use Rattle.std.specs.Prelude.{⊤, codes}
-use Rattle.std.specs.Option.{option_and_then, option_map, option_or}
-use Rattle.std.specs.Str.{bytes_eq}
-use Rattle.aeth_answers.specs.Job.{Job}
-use Rattle.aeth_answers.specs.Places.{Files}
-use Rattle.aeth_answers.specs.Stop.{Answers, IfAnswer}
-use Rattle.aeth_answers.specs.Words.{file_name_of, number_within}
-use Rattle.aeth_answers.specs.declared.answer.Stop.{Stop}
+use Rattle.std.proofs.Common.{◌≡◌, ◌≤◌, ℕ, Bool, true, false, List, [], ◌∷◌, Option, Some, None}
+use Rattle.std.proofs.Common.{Result, if◌then◌else◌, refl, subst, sym, codes}
+use Rattle.std.specs.{Prelude.⊤, Option.option_and_then, Option.option_map, Option.option_or}
+use Rattle.std.specs.{Str.bytes_eq}
+use Rattle.aeth_answers.specs.{Job.Job, Places.Files, Stop.Answers, Stop.IfAnswer}
+use Rattle.aeth_answers.specs.{Words.file_name_of, Words.number_within, declared.answer.Stop.Stop}
 use Rattle.aeth_answers.proofs.Reading.{number_within-bounds}
-use Rattle.aeth_base.specs.Limits.{max_cycles}
-use Rattle.aeth_base.specs.Name.{name_of}
+use Rattle.aeth_base.specs.{Limits.max_cycles, Name.name_of}
 use Rattle.aeth_chain.specs.ItemNames.{AreItemNames, item_names_of}
 use Rattle.aeth_chain.specs.declared.names.ItemName.{ItemName}
 use Rattle.aeth_design_commands.specs.Commands.{design_command}
 use Rattle.aeth_design_commands.specs.declared.command.DesignCommand.{DesignCommand}
 use Rattle.aeth_explain_commands.specs.Commands.{explain_command}
 use Rattle.aeth_explain_commands.specs.declared.command.ExplainCommand.{ExplainCommand}
-use Rattle.aeth_plan_commands.specs.Audit.{audit_command}
-use Rattle.aeth_plan_commands.specs.Chain.{chain_command}
-use Rattle.aeth_plan_commands.specs.Commands.{plan_command}
-use Rattle.aeth_plan_commands.specs.PlannedUses.{use_files_of}
-use Rattle.aeth_plan_commands.specs.declared.chain.ChainFiles.{ChainFiles}
-use Rattle.aeth_plan_commands.specs.declared.command.PlanCommand.{PlanCommand}
-use Rattle.aeth_plan_commands.specs.declared.command.PlanCommand.TheVariants as plan
-use Rattle.aeth_run_commands.specs.Commands.{run_command}
-use Rattle.aeth_run_commands.specs.Outcomes.{Outcomes}
-use Rattle.aeth_run_commands.specs.declared.command.RunCommand.{RunCommand}
-use Rattle.aeth_run_commands.specs.declared.command.RunCommand.TheVariants as run
-use Rattle.aeth_run_commands.specs.declared.simulate.SimulatedRun.{SimulatedRun}
-use Rattle.aeth_run_commands.specs.TracedDesigns.{files_named}
+use Rattle.aeth_plan_commands.specs.{Audit.audit_command, Chain.chain_command}
+use Rattle.aeth_plan_commands.specs.{Commands.plan_command, PlannedUses.use_files_of}
+use Rattle.aeth_plan_commands.specs.{declared.chain.ChainFiles.ChainFiles}
+use Rattle.aeth_plan_commands.specs.{declared.command.PlanCommand.PlanCommand}
+use Rattle.aeth_run_commands.specs.{Commands.run_command, Outcomes.Outcomes}
+use Rattle.aeth_run_commands.specs.{declared.command.RunCommand.RunCommand}
+use Rattle.aeth_run_commands.specs.{declared.simulate.SimulatedRun.SimulatedRun}
+use Rattle.aeth_run_commands.specs.{TracedDesigns.files_named}
 use Rattle.aeth_run_commands.proofs.RangeLemmas.{IsShort, command_short}
 use Rattle.aeth_cli.specs.Commands.{AnswersWords, IsAnswerTo, command_of, task_of}
 use Rattle.aeth_cli.specs.Commands.Links.{links_command, links_words}
 use Rattle.aeth_cli.specs.Limits.{max_logged_cycles}
-use Rattle.aeth_cli.specs.declared.commands.Command.{Command}
+use Rattle.aeth_cli.specs.declared.commands.{Command.Command, links.LoggedRun.LoggedRun}
+use Rattle.aeth_plan_commands.specs.declared.command.PlanCommand.TheVariants as plan
+use Rattle.aeth_run_commands.specs.declared.command.RunCommand.TheVariants as run
 use Rattle.aeth_cli.specs.declared.commands.Command.TheVariants as command
-use Rattle.aeth_cli.specs.declared.commands.links.LoggedRun.{LoggedRun}
 
 -- ---- ranges
 

@@ -1,52 +1,39 @@
 -- Laws that lead from the promise to the headline.
-use Rattle.std.proofs.Common.{◌≡◌, ◌≢◌, ◌∙◌, ◌<◌, ◌≤◌, ℕ, List, [], ◌∷◌, Option, Some, ap, arith, refl}
-use Rattle.std.proofs.Common.{subst, sym}
-use Rattle.std.specs.Prelude.{Contains}
+use Rattle.std.proofs.Common.{◌≡◌, ◌≢◌, ◌∙◌, ◌<◌, ◌≤◌, ℕ, List, [], ◌∷◌, Option, Some, ap, arith}
+use Rattle.std.proofs.Common.{refl, subst, sym, Contains}
 use Rattle.aeth_accepted.specs.Inputs.{AreAccepted, Inputs}
-use Rattle.aeth_alloc.specs.Allocation.{OutcomeData, allocation, last_state}
-use Rattle.aeth_alloc.specs.Channels.{Design}
-use Rattle.aeth_alloc.specs.Prices.{prices_of}
-use Rattle.aeth_alloc.specs.Refusals.{IsRefused, RefusesExactly}
-use Rattle.aeth_alloc.specs.declared.outcome.Refused.{Refused}
-use Rattle.aeth_answers.specs.Job.{Job, done, not_granted}
-use Rattle.aeth_answers.specs.Places.{Places}
-use Rattle.aeth_answers.specs.Status.{done_status, not_granted_status, read_fault_status}
-use Rattle.aeth_answers.specs.Status.{refused_status}
-use Rattle.aeth_answers.specs.Task.{job_with}
+use Rattle.aeth_alloc.specs.{Allocation.OutcomeData, Allocation.allocation, Allocation.last_state}
+use Rattle.aeth_alloc.specs.{Channels.Design, Prices.prices_of, Refusals.IsRefused}
+use Rattle.aeth_alloc.specs.{Refusals.RefusesExactly, declared.outcome.Refused.Refused}
+use Rattle.aeth_answers.specs.{Job.Job, Job.done, Job.not_granted, Places.Places}
+use Rattle.aeth_answers.specs.{Status.done_status, Status.not_granted_status}
+use Rattle.aeth_answers.specs.{Status.read_fault_status, Status.refused_status, Task.job_with}
 use Rattle.aeth_app.specs.App.{AppData, IsApp, IsAppOf}
 use Rattle.aeth_base.specs.Limits.{max_cycles}
 use Rattle.aeth_chain.specs.ItemNames.{AreItemNames}
 use Rattle.aeth_chip.specs.Chip.{ChipData, IsChip}
-use Rattle.aeth_cli.specs.Commands.{asked_job, command_of, job, task_of}
-use Rattle.aeth_cli.specs.Commands.Links.{links_task}
-use Rattle.aeth_cli.specs.Promise.{Promise}
-use Rattle.aeth_cli.specs.Told.{IsLinksLog}
-use Rattle.aeth_command_laws.specs.Chained.{IsChained}
-use Rattle.aeth_command_laws.specs.Explained.{IsConfirmed, IsExplained}
-use Rattle.aeth_command_laws.specs.Logged.{IsAudited}
-use Rattle.aeth_command_laws.specs.Tabled.{AreTablesTold}
-use Rattle.aeth_command_laws.specs.Told.{IsAllocated, IsSimulated}
+use Rattle.aeth_cli.specs.{Commands.asked_job, Commands.command_of, Commands.job, Commands.task_of}
+use Rattle.aeth_cli.specs.{Commands.Links.links_task, Promise.Promise, Told.IsLinksLog}
+use Rattle.aeth_cli.specs.{Asked.Answers, Asked.AuditFiles, Asked.ChainFiles, Asked.Command}
+use Rattle.aeth_cli.specs.{Asked.Contents, Asked.IfDone, Asked.IsGiven, Asked.ItemName}
+use Rattle.aeth_cli.specs.{Asked.LoggedRun, Asked.SimulatedRun, Asked.UseFiles, Headline.Headline}
+use Rattle.aeth_cli.specs.{Machines.network_outcome, Machines.network_outcomes}
+use Rattle.aeth_cli.specs.{Printed.AreRefusalsPrinted, Printed.IsPlanPrinted, Printed.IsRunPrinted}
+use Rattle.aeth_cli.specs.{Printed.allocated, Printed.design_of, Runs.HoldsOfRun}
+use Rattle.aeth_command_laws.specs.{Chained.IsChained, Explained.IsConfirmed, Explained.IsExplained}
+use Rattle.aeth_command_laws.specs.{Logged.IsAudited, Tabled.AreTablesTold, Told.IsAllocated}
+use Rattle.aeth_command_laws.specs.{Told.IsSimulated}
 use Rattle.aeth_design_commands.specs.Allocate.{allocate_task, outcome_job, refusals_text}
 use Rattle.aeth_explain_commands.specs.Explain.{confirm_task, explain_task}
 use Rattle.aeth_run_files.specs.declared.runs.RunFiles.{RunFiles}
 use Rattle.aeth_group.specs.Members.{groups_of}
+use Rattle.aeth_plan.specs.{PlanText.plan_text, Accepted.IsAccepted}
+use Rattle.aeth_plan.specs.{declared.design.Design.Design as Given}
+use Rattle.aeth_plan_commands.specs.{Audit.audit_task, Chain.chain_task, Tables.tables_task}
+use Rattle.aeth_run_commands.specs.Simulate.{simulate_task}
 use Rattle.aeth_io.specs.declared.shelf.Shelf as shelf
 use Rattle.aeth_io.specs.declared.sink.Sink as sink
-use Rattle.aeth_plan.specs.PlanText.{plan_text}
-use Rattle.aeth_plan.specs.Accepted.{IsAccepted}
-use Rattle.aeth_plan_commands.specs.Audit.{audit_task}
-use Rattle.aeth_plan_commands.specs.Chain.{chain_task}
-use Rattle.aeth_plan_commands.specs.Tables.{tables_task}
-use Rattle.aeth_plan.specs.declared.design.Design.{Design as Given}
-use Rattle.aeth_run_commands.specs.Simulate.{simulate_task}
-use Rattle.aeth_cli.specs.Asked.{Answers, AuditFiles, ChainFiles, Command, Contents, IfDone, IsGiven}
-use Rattle.aeth_cli.specs.Asked.{ItemName, LoggedRun, SimulatedRun, UseFiles}
 use Rattle.aeth_cli.specs.Asked as command
-use Rattle.aeth_cli.specs.Headline.{Headline}
-use Rattle.aeth_cli.specs.Machines.{network_outcome, network_outcomes}
-use Rattle.aeth_cli.specs.Printed.{AreRefusalsPrinted, IsPlanPrinted, IsRunPrinted, allocated}
-use Rattle.aeth_cli.specs.Printed.{design_of}
-use Rattle.aeth_cli.specs.Runs.{HoldsOfRun}
 
 -- The job of words that are a command is that of its task.
 command_job : (content : Contents) (said : Option Command) (one : Command) (asked : Job)

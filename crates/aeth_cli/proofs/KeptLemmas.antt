@@ -1,12 +1,11 @@
 -- A channel that a switch keeps goes through it in one session.
 use Rattle.std.proofs.Common.{◌≡◌, ◌∙◌, ◌≤◌, ◌+◌, ◌⊎◌, ℕ, zero, suc, List, [], ◌∷◌, Contains}
 use Rattle.std.proofs.Common.{Option, Some, None, arith, inl, inr, refl, slice_get, subst, ap}
-use Rattle.std.specs.Prelude.{IfSome, IsTrue, not, option_map}
+use Rattle.std.proofs.Common.{IfSome, IsTrue, not, option_map}
 use Rattle.std.proofs.lemmas.Bool.{and_from, cases_Bool, not_from_false}
 use Rattle.std.proofs.lemmas.Option.{none-some, same_Some}
 use Rattle.aeth_accepted.specs.Inputs.{AreAccepted, Inputs, design_of, row_at, run_of}
-use Rattle.aeth_base.specs.declared.ids.Channel.{Channel}
-use Rattle.aeth_base.proofs.Members.{Contains-map}
+use Rattle.aeth_base.{specs.declared.ids.Channel.Channel, proofs.Members.Contains-map}
 use Rattle.aeth_group.specs.Members.{GroupsData, group_at, groups_of, has_at, is_kept}
 use Rattle.aeth_ni.specs.declared.write.Write.{Write}
 use Rattle.aeth_reconf.specs.Rows.{Touches, switch_program}
@@ -16,9 +15,8 @@ use Rattle.aeth_report.specs.Sound.{IsSound}
 use Rattle.aeth_report.specs.declared.session.Close.{Close}
 use Rattle.aeth_report.proofs.SessionMeetings.{AreInTime, in_time}
 use Rattle.aeth_report.proofs.Stays.{kept-is, opened, stay_with-here, stay_with-there, switch_of}
-use Rattle.aeth_trace.specs.Spans.{SpanData}
-use Rattle.aeth_trace.specs.Switches.{go_after}
-use Rattle.aeth_trace.specs.declared.switches.SwitchRow.{SwitchRow}
+use Rattle.aeth_trace.specs.{Spans.SpanData, Switches.go_after}
+use Rattle.aeth_trace.specs.{declared.switches.SwitchRow.SwitchRow}
 use Rattle.aeth_cli.specs.Kept.{GoesThrough}
 
 module _ (groups : GroupsData) (spans : SpanData) (c : ℕ) where

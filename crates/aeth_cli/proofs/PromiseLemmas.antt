@@ -1,14 +1,11 @@
 -- Laws of the promise: what an answer keeps of it, once its text was written or cut short.
-use Rattle.std.proofs.Common.{◌≡◌, ◌∙◌, ◌≤◌, ◌<◌, ℕ, List, Option, Some, None, inl, inr}
-use Rattle.std.proofs.Common.{ap, refl, subst, sym, arith}
+use Rattle.std.proofs.Common.{◌≡◌, ◌∙◌, ◌≤◌, ◌<◌, ℕ, List, Option, Some, None, inl, inr, ap, refl}
+use Rattle.std.proofs.Common.{subst, sym, arith}
 use Rattle.std.proofs.Math.Nat.{eq-or-lt_of_le}
 use Rattle.std.proofs.lemmas.Option.{same_Some}
-use Rattle.aeth_io.specs.declared.shelf.Shelf as shelf
-use Rattle.aeth_io.specs.declared.sink.Sink as sink
 use Rattle.aeth_answers.specs.Job.{Job, err_text, usage}
 use Rattle.aeth_answers.specs.Places.{Files, IsAfter, NoneFailed, Places, files_of}
-use Rattle.aeth_answers.specs.Status.{read_fault_status, usage_status}
-use Rattle.aeth_answers.specs.Status.{write_fault_status}
+use Rattle.aeth_answers.specs.Status.{read_fault_status, usage_status, write_fault_status}
 use Rattle.aeth_answers.specs.Task.{IsReadFault}
 use Rattle.aeth_answers.specs.Writing.{EndsWith, IsCutShort, IsWritten}
 use Rattle.aeth_answers.proofs.TaskLemmas.{ComesTo-job}
@@ -16,6 +13,8 @@ use Rattle.aeth_run_commands.specs.Outcomes.{Outcomes}
 use Rattle.aeth_cli.specs.declared.commands.Command.{Command}
 use Rattle.aeth_cli.specs.Commands.{IsAnswerTo, WordsComeTo, asked_job, command_of, task_of}
 use Rattle.aeth_cli.specs.Promise.{Promise, sinks_of}
+use Rattle.aeth_io.specs.declared.shelf.Shelf as shelf
+use Rattle.aeth_io.specs.declared.sink.Sink as sink
 
 module _ (outcomes : Outcomes) (old new : Files) (answer : Job) where
   -- The status of an answer is at most that of a read fault.

@@ -5,19 +5,18 @@
 --   IfDone, IfNotGranted, IfNotRefused      what holds of an answer with such a status
 --   IsGiven, Answers      the answer to a command, and what holds of it
 -- This project's own.
-use Rattle.std.specs.Prelude.{ℕ, ◌≡◌, ◌≢◌, ◌<◌, List, Option, Some}
-use Rattle.aeth_answers.specs.Job.{Job, err_text, out_text}
-use Rattle.aeth_answers.specs.Places.{Places}
-use Rattle.aeth_answers.specs.Status.{done_status, not_granted_status, read_fault_status}
-use Rattle.aeth_answers.specs.Status.{refused_status}
+use Rattle.std.proofs.Common.{ℕ, ◌≡◌, ◌≢◌, ◌<◌, List, Option, Some}
+use Rattle.aeth_answers.specs.{Job.Job, Job.err_text, Job.out_text, Places.Places}
+use Rattle.aeth_answers.specs.{Status.done_status, Status.not_granted_status}
+use Rattle.aeth_answers.specs.{Status.read_fault_status, Status.refused_status}
+use Rattle.aeth_cli.specs.{Commands.command_of, Commands.job, Machines.network_outcomes}
+use Rattle.aeth_io.specs.Sink.{appended}
 pub use Rattle.aeth_chain.specs.declared.names.ItemName.{ItemName}
-use Rattle.aeth_cli.specs.Commands.{command_of, job}
 pub use Rattle.aeth_cli.specs.declared.commands.Command.{Command}
 use Rattle.aeth_cli.specs.declared.commands.Command.TheVariants as command
 pub use Rattle.aeth_cli.specs.declared.commands.links.LoggedRun.{LoggedRun}
 use Rattle.aeth_design_commands.specs.declared.command.DesignCommand.TheVariants as design
 use Rattle.aeth_explain_commands.specs.declared.command.ExplainCommand.TheVariants as refusals
-use Rattle.aeth_io.specs.Sink.{appended}
 use Rattle.aeth_io.specs.declared.shelf.Shelf as shelf
 use Rattle.aeth_io.specs.declared.sink.Sink as sink
 pub use Rattle.aeth_plan_commands.specs.declared.audit.AuditFiles.{AuditFiles}
@@ -26,7 +25,6 @@ use Rattle.aeth_plan_commands.specs.declared.command.PlanCommand.TheVariants as 
 pub use Rattle.aeth_plan_commands.specs.declared.planned_uses.UseFiles.{UseFiles}
 use Rattle.aeth_run_commands.specs.declared.command.RunCommand.TheVariants as run
 pub use Rattle.aeth_run_commands.specs.declared.simulate.SimulatedRun.{SimulatedRun}
-use Rattle.aeth_cli.specs.Machines.{network_outcomes}
 
 -- `allocate CHIP APP`.
 abbrev pub allocate : List ℕ → List ℕ → Command

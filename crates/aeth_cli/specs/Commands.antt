@@ -1,24 +1,21 @@
 -- The commands, and what each asks for.
 -- This project's own.
 pub mod Links
-use Rattle.std.specs.Prelude.{ℕ, ◌≡◌, ⊤, List, [], ◌∷◌, Option, Some, None, Result}
-use Rattle.std.specs.Option.{option_map, option_or}
-use Rattle.aeth_answers.specs.Job.{Job, usage}
-use Rattle.aeth_answers.specs.Places.{Files, IsAfter, NoneFailed}
-use Rattle.aeth_answers.specs.Stop.{IfAnswer, UnlessEnds}
-use Rattle.aeth_answers.specs.Task.{ComesTo, IsAnswer, Task, job_with}
-use Rattle.aeth_answers.specs.declared.answer.Stop.{Stop}
-use Rattle.aeth_design_commands.specs.Commands as design
+use Rattle.std.proofs.Common.{ℕ, ◌≡◌, List, [], ◌∷◌, Option, Some, None, Result}
+use Rattle.std.specs.{Prelude.⊤, Option.option_map, Option.option_or}
+use Rattle.aeth_answers.specs.{Job.Job, Job.usage, Places.Files, Places.IsAfter, Places.NoneFailed}
+use Rattle.aeth_answers.specs.{Stop.IfAnswer, Stop.UnlessEnds, Task.ComesTo, Task.IsAnswer}
+use Rattle.aeth_answers.specs.{Task.Task, Task.job_with, declared.answer.Stop.Stop}
 use Rattle.aeth_design_commands.specs.Commands.{design_command, design_task}
 use Rattle.aeth_explain_commands.specs.Commands.{explain_command, refusals_task}
-use Rattle.aeth_plan_commands.specs.Commands as plan
 use Rattle.aeth_plan_commands.specs.Commands.{plan_command, plan_task}
-use Rattle.aeth_run_commands.specs.Commands as run
-use Rattle.aeth_run_commands.specs.Commands.{run_command, run_task}
-use Rattle.aeth_run_commands.specs.Outcomes.{Outcomes}
-use Rattle.aeth_cli.specs.Commands.Links as links
+use Rattle.aeth_run_commands.specs.{Commands.run_command, Commands.run_task, Outcomes.Outcomes}
 use Rattle.aeth_cli.specs.Commands.Links.{links_command, links_task}
 use Rattle.aeth_cli.specs.declared.commands.Command.{Command}
+use Rattle.aeth_design_commands.specs.Commands as design
+use Rattle.aeth_plan_commands.specs.Commands as plan
+use Rattle.aeth_run_commands.specs.Commands as run
+use Rattle.aeth_cli.specs.Commands.Links as links
 use Rattle.aeth_cli.specs.declared.commands.Command.TheVariants as command
 
 -- The command that the words are, if they are one: the first is its name. No two commands have one

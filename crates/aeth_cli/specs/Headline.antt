@@ -1,14 +1,12 @@
 -- The headline: what the program keeps of what it prints, from the bytes of the files on. Each field is one
 -- sentence on the answer to a command (`Answers`, `specs/Asked.antt`).
-use Rattle.std.specs.Prelude.{ℕ, List}
+use Rattle.std.proofs.Common.{ℕ, List}
 use Rattle.aeth_cli.specs.Told.{IsLinksLog}
-use Rattle.aeth_command_laws.specs.Chained.{IsChained}
-use Rattle.aeth_command_laws.specs.Explained.{IsConfirmed, IsExplained}
-use Rattle.aeth_command_laws.specs.Logged.{IsAudited}
-use Rattle.aeth_command_laws.specs.Tabled.{AreTablesTold}
 use Rattle.aeth_cli.specs.Asked.{Contents, Says, IfDone, IfNotGranted, IfNotRefused}
-use Rattle.aeth_cli.specs.Asked as command
 use Rattle.aeth_cli.specs.Printed.{AreRefusalsPrinted, IsPlanPrinted, IsRunPrinted}
+use Rattle.aeth_command_laws.specs.{Chained.IsChained, Explained.IsConfirmed, Explained.IsExplained}
+use Rattle.aeth_command_laws.specs.{Logged.IsAudited, Tabled.AreTablesTold}
+use Rattle.aeth_cli.specs.Asked as command
 
 pub record Headline (content : Contents) (Answers : Says) : Type 0 where
   -- `simulate` prints the log of accepted inputs, and all that holds of every run holds of theirs.

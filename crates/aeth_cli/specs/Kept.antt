@@ -1,15 +1,13 @@
 -- Channels that a switch keeps.
 -- Channels that go on through a switch: this project's own.
-use Rattle.std.specs.Prelude.{ℕ, ◌≡◌, ◌≤◌, Contains, IfSome}
+use Rattle.std.proofs.Common.{ℕ, ◌≡◌, ◌≤◌, Contains, IfSome}
 use Rattle.aeth_accepted.specs.Inputs.{Inputs, design_of, row_at, run_of}
 use Rattle.aeth_base.specs.declared.ids.Channel.{Channel}
 use Rattle.aeth_group.specs.Members.{group_at, groups_of}
 use Rattle.aeth_ni.specs.declared.write.Write.{Write}
 use Rattle.aeth_reconf.specs.Rows.{Touches, switch_program}
-use Rattle.aeth_report.specs.Flows.{sessions_in}
-use Rattle.aeth_report.specs.declared.session.Session.{Session}
-use Rattle.aeth_trace.specs.Switches.{go_after}
-use Rattle.aeth_trace.specs.declared.switches.SwitchRow.{SwitchRow}
+use Rattle.aeth_report.specs.{Flows.sessions_in, declared.session.Session.Session}
+use Rattle.aeth_trace.specs.{Switches.go_after, declared.switches.SwitchRow.SwitchRow}
 
 -- One session of a channel goes through the switch of a row, which leaves use case u: by the grants of the
 -- group of u it goes by the cycle of the row, and it accepts words until the channels go that the row

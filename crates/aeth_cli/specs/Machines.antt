@@ -1,8 +1,7 @@
 -- The networks that play runs.
 -- This project's own.
 use Rattle.aeth_accepted.specs.Inputs.{Inputs, run_of}
-use Rattle.aeth_report.specs.Log.{LogData}
-use Rattle.aeth_report.specs.RunLog.{log_of}
+use Rattle.aeth_report.specs.{Log.LogData, RunLog.log_of}
 use Rattle.aeth_run_commands.specs.Outcomes.{Outcomes}
 
 -- The log that a network gives: that of one private server for each session, with no network between

@@ -3,22 +3,18 @@
 --   IsRunPrinted      the log of a run, and what holds of it
 --   IsPlanPrinted, AreRefusalsPrinted      a plan, and the units that are refused
 -- Allocation after UMARS (2005). The sentences are this project's own.
-use Rattle.std.specs.Prelude.{ℕ, ◌≡◌, Contains, List, Option}
-use Rattle.aeth_alloc.specs.Allocation.{OutcomeData, allocation}
-use Rattle.aeth_alloc.specs.Channels.{Design}
-use Rattle.aeth_alloc.specs.Prices.{prices_of}
-use Rattle.aeth_alloc.specs.Refusals.{IsRefused, RefusesExactly}
-use Rattle.aeth_alloc.specs.declared.outcome.Refused.{Refused}
+use Rattle.std.proofs.Common.{ℕ, ◌≡◌, Contains, List, Option}
+use Rattle.aeth_alloc.specs.{Allocation.OutcomeData, Allocation.allocation, Channels.Design}
+use Rattle.aeth_alloc.specs.{Prices.prices_of, Refusals.IsRefused, Refusals.RefusesExactly}
+use Rattle.aeth_alloc.specs.{declared.outcome.Refused.Refused}
 use Rattle.aeth_answers.specs.Job.{Job, done, not_granted}
 use Rattle.aeth_command_laws.specs.Told.{IsAllocated, IsSimulated}
 use Rattle.aeth_design_commands.specs.Allocate.{refusals_text}
 use Rattle.aeth_group.specs.Members.{groups_of}
-use Rattle.aeth_plan.specs.PlanText.{plan_text}
-use Rattle.aeth_plan.specs.Accepted.{IsAccepted}
-use Rattle.aeth_plan.specs.declared.design.Design.{Design as Given}
+use Rattle.aeth_plan.specs.{PlanText.plan_text, Accepted.IsAccepted}
+use Rattle.aeth_plan.specs.{declared.design.Design.Design as Given}
 use Rattle.aeth_run_commands.specs.declared.simulate.SimulatedRun.{SimulatedRun}
-use Rattle.aeth_cli.specs.Machines.{network_outcome}
-use Rattle.aeth_cli.specs.Runs.{HoldsOfRun}
+use Rattle.aeth_cli.specs.{Machines.network_outcome, Runs.HoldsOfRun}
 
 -- The allocation of an application on a chip, by its price.
 abbrev pub allocated : Given → OutcomeData

@@ -7,20 +7,18 @@
 -- `simulate-tables`. Want of memory is the one answer whose cause is left open, but it never stands
 -- for a fault.
 -- This project's own.
-use Rattle.std.specs.Prelude.{ℕ, ◌≡◌, ◌≢◌, ◌<◌, ◌≤◌, ◌⊎◌, List, Some, None}
-use Rattle.aeth_io.specs.Causes.{Rose}
-use Rattle.aeth_io.specs.Sink.{appended}
-use Rattle.aeth_io.specs.declared.shelf.Shelf as shelf
-use Rattle.aeth_io.specs.declared.sink.Sink as sink
-use Rattle.aeth_answers.specs.Job.{Job, err_text, out_text}
-use Rattle.aeth_answers.specs.Places.{IsAfter, NoneFailed, Places, Sinks, files_of}
-use Rattle.aeth_answers.specs.Status.{done_status, memory_status, read_fault_status, usage_status}
-use Rattle.aeth_answers.specs.Status.{write_fault_status}
-use Rattle.aeth_answers.specs.Task.{IsReadFault}
-use Rattle.aeth_answers.specs.Writing.{IsCutShort}
+use Rattle.std.proofs.Common.{ℕ, ◌≡◌, ◌≢◌, ◌<◌, ◌≤◌, ◌⊎◌, List, Some, None}
+use Rattle.aeth_io.specs.{Causes.Rose, Sink.appended}
+use Rattle.aeth_answers.specs.{Job.Job, Job.err_text, Job.out_text, Places.IsAfter}
+use Rattle.aeth_answers.specs.{Places.NoneFailed, Places.Places, Places.Sinks, Places.files_of}
+use Rattle.aeth_answers.specs.{Status.done_status, Status.memory_status, Status.read_fault_status}
+use Rattle.aeth_answers.specs.{Status.usage_status, Status.write_fault_status, Task.IsReadFault}
+use Rattle.aeth_answers.specs.{Writing.IsCutShort}
 use Rattle.aeth_run_commands.specs.Outcomes.{Outcomes}
 use Rattle.aeth_cli.specs.declared.commands.Command.{Command}
 use Rattle.aeth_cli.specs.Commands.{IsAnswerTo, WordsComeTo, command_of, job, task_of}
+use Rattle.aeth_io.specs.declared.shelf.Shelf as shelf
+use Rattle.aeth_io.specs.declared.sink.Sink as sink
 
 -- The sinks of a run.
 abbrev pub sinks_of : {H O E : Type 0} → Places H O E → Sinks O E

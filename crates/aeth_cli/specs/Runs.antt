@@ -2,22 +2,19 @@
 --
 -- Slots, flits and paths after Æthereal (2005), due cycles after the latency-rate server (Stiliadis and
 -- Varma, 1998). The sentences are this project's own.
-use Rattle.std.specs.Prelude.{◌≡◌, ◌≤◌, ◌<◌, ◌+◌, ℕ, Contains, IsTrue, Some, length, slice_get}
+use Rattle.std.proofs.Common.{◌≡◌, ◌≤◌, ◌<◌, ◌+◌, ℕ, Contains, IsTrue, Some, length, slice_get}
 use Rattle.std.specs.Option.{option_to_list}
 use Rattle.aeth_accepted.specs.Inputs.{Inputs, run_of}
 use Rattle.aeth_accepted.specs.Wishes.{IsOfferedAlone, latency_at}
 use Rattle.aeth_base.specs.declared.ids.Channel.{Channel}
 use Rattle.aeth_clocked.specs.Wires.{flit_on}
 use Rattle.aeth_group.specs.Members.{groups_of, is_kept}
-use Rattle.aeth_report.specs.Alike.{IsGivenAlike}
-use Rattle.aeth_report.specs.Bounds.{IsLandingOf, IsLoggedBy, IsLoggedInTime}
-use Rattle.aeth_report.specs.Carries.{carries}
-use Rattle.aeth_report.specs.Flows.{flow_of, server_of, sessions_in}
-use Rattle.aeth_report.specs.RunLog.{channel_log, flow_log}
-use Rattle.aeth_report.specs.declared.log.Landing.{Landing}
-use Rattle.aeth_report.specs.declared.session.Session.{Session}
-use Rattle.aeth_running.specs.Network.{first_network, played}
-use Rattle.aeth_running.specs.Routing.{ByHeaders}
+use Rattle.aeth_report.specs.{Alike.IsGivenAlike, Bounds.IsLandingOf, Bounds.IsLoggedBy}
+use Rattle.aeth_report.specs.{Bounds.IsLoggedInTime, Carries.carries, Flows.flow_of}
+use Rattle.aeth_report.specs.{Flows.server_of, Flows.sessions_in, RunLog.channel_log}
+use Rattle.aeth_report.specs.{RunLog.flow_log, declared.log.Landing.Landing}
+use Rattle.aeth_report.specs.{declared.session.Session.Session}
+use Rattle.aeth_running.specs.{Network.first_network, Network.played, Routing.ByHeaders}
 use Rattle.aeth_server.specs.Landing.{IsDue}
 use Rattle.aeth_table_network.specs.Tables.{tables_of}
 use Rattle.aeth_trace.specs.declared.switches.SwitchRow.{SwitchRow}

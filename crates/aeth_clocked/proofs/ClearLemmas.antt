@@ -1,12 +1,11 @@
 -- Wires from which all flits are taken.
-use Rattle.std.proofs.Common.{ℕ, zero, suc, ◌≡◌, ◌<◌, ◌∙◌, refl, sym, ap, arith, inl, inr}
-use Rattle.std.proofs.Common.{List, length, Option, None, Some, replicate}
+use Rattle.std.proofs.Common.{ℕ, zero, suc, ◌≡◌, ◌<◌, ◌∙◌, refl, sym, ap, arith, inl, inr, List}
+use Rattle.std.proofs.Common.{length, Option, None, Some, replicate}
 use Rattle.std.proofs.lemmas.Bool.{cases_lt}
 use Rattle.std.proofs.lemmas.List.{get_or-replicate, length-replicate}
 use Rattle.std.proofs.lemmas.Option.{slice_get-get_or, slice_get_past, unwrap_or-slice_get}
 use Rattle.aeth_base.proofs.Lists.{same_list}
-use Rattle.aeth_clocked.specs.Wires.{flit_on}
-use Rattle.aeth_clocked.specs.declared.flit.Flit.{Flit}
+use Rattle.aeth_clocked.specs.{Wires.flit_on, declared.flit.Flit.Flit}
 
 -- Empty wires have no flit.
 pub flit_on-replicate : (count wire : ℕ) → flit_on (replicate count None) wire ≡ None

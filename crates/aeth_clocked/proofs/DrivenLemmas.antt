@@ -1,10 +1,7 @@
 -- Laws of what components drive together.
-use Rattle.std.proofs.Common.{ℕ, zero, suc, ◌≡◌, refl, inl, inr, arith}
-use Rattle.std.proofs.Common.{Bool, true, Option, Some}
+use Rattle.std.proofs.Common.{ℕ, zero, suc, ◌≡◌, refl, inl, inr, arith, Bool, true, Option, Some}
 use Rattle.std.proofs.Common.{List, [], ◌∷◌, slice_get}
-use Rattle.std.proofs.lemmas.Bool.{cases_Bool}
-use Rattle.std.proofs.lemmas.Map.Keys.{any_passes_from_place}
-use Rattle.std.proofs.lemmas.Option.{same_Some}
+use Rattle.std.proofs.lemmas.{Bool.cases_Bool, Map.Keys.any_passes_from_place, Option.same_Some}
 use Rattle.aeth_clocked.specs.declared.flit.Flit.{Flit}
 use Rattle.aeth_clocked.specs.Driven.{AreDisjoint, is_output, driven}
 

@@ -1,18 +1,12 @@
 -- Wires that components have driven one after the other, by the numbers whose turn has come.
-use Rattle.std.proofs.Common.{ℕ, suc, ◌+◌, ◌≤◌, ◌≡◌, refl, sym, ◌∙◌, arith}
-use Rattle.std.proofs.Common.{Bool, false, ◌||◌, Option, Some}
-use Rattle.std.proofs.Common.{List, [], ◌∷◌, ◌++◌, length, take, slice_get}
-use Rattle.std.specs.List.{list_any, range_with_len}
-use Rattle.std.specs.Option.{option_map_or}
+use Rattle.std.proofs.Common.{ℕ, suc, ◌+◌, ◌≤◌, ◌≡◌, refl, sym, ◌∙◌, arith, Bool, false, ◌||◌}
+use Rattle.std.proofs.Common.{Option, Some, List, [], ◌∷◌, ◌++◌, length, take, slice_get, take_all}
 use Rattle.std.proofs.Math.Bool.{or-false}
-use Rattle.std.proofs.lemmas.List.{take_all}
-use Rattle.std.proofs.lemmas.List.Folds.{list_any-append}
-use Rattle.std.proofs.lemmas.List.Sorted.{list_any-IsPermutation}
+use Rattle.std.proofs.lemmas.List.{Folds.list_any-append, Sorted.list_any-IsPermutation}
+use Rattle.std.specs.{List.list_any, List.range_with_len, Option.option_map_or}
 use Rattle.aeth_base.proofs.Lists.{take-slice_get}
-use Rattle.aeth_clocked.specs.declared.flit.Flit.{Flit}
-use Rattle.aeth_clocked.specs.Wires.{Drives}
-use Rattle.aeth_clocked.specs.Driven.{AreDisjoint, is_output, driven}
-use Rattle.aeth_clocked.specs.Order.{IsOrder}
+use Rattle.aeth_clocked.specs.{declared.flit.Flit.Flit, Wires.Drives, Driven.AreDisjoint}
+use Rattle.aeth_clocked.specs.{Driven.is_output, Driven.driven, Order.IsOrder}
 use Rattle.aeth_clocked.proofs.DrivenLemmas.{driven-at}
 use Rattle.aeth_clocked.proofs.WiresLemmas.{Drives-same, Drives-then}
 

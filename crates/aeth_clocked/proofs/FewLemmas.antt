@@ -1,16 +1,12 @@
 -- Chosen numbers are no more than those below a count that pass a test which they pass.
-use Rattle.std.proofs.Common.{◌≡◌, ◌≤◌, ◌∙◌, ℕ, suc, refl, sym, ap, inl, inr, arith}
-use Rattle.std.proofs.Common.{Bool, true, eqb, List, [], ◌∷◌, Some, length, count_by, filter, slice_get}
-use Rattle.std.specs.List.{list_any, range_with_len}
-use Rattle.std.proofs.lemmas.Bool.{cases_Bool, eqb-true}
-use Rattle.std.proofs.lemmas.List.Sums.{length-filter}
-use Rattle.std.proofs.lemmas.Map.Made.{length-le_from_is_member}
-use Rattle.std.specs.Cmp.{nat_eq_equiv}
+use Rattle.std.proofs.Common.{◌≡◌, ◌≤◌, ◌∙◌, ℕ, suc, refl, sym, ap, inl, inr, arith, Bool, true}
+use Rattle.std.proofs.Common.{eqb, List, [], ◌∷◌, Some, length, count_by, filter, slice_get}
+use Rattle.std.proofs.Common.{eqb-true, eq-eqb}
+use Rattle.std.proofs.lemmas.{Bool.cases_Bool, List.Sums.length-filter}
+use Rattle.std.proofs.lemmas.{Map.Made.length-le_from_is_member, List.Folds.list_any_at}
+use Rattle.std.specs.{List.list_any, List.range_with_len, Cmp.nat_eq_equiv}
 use Rattle.aeth_base.proofs.Ranges.{Contains-range}
-use Rattle.aeth_clocked.specs.Order.{AreChosen}
-use Rattle.aeth_clocked.proofs.OrderLemmas.{AreChosen-below-at}
-use Rattle.std.proofs.lemmas.List.Folds.{list_any_at}
-use Rattle.std.proofs.lemmas.Bool.{eq-eqb}
+use Rattle.aeth_clocked.{specs.Order.AreChosen, proofs.OrderLemmas.AreChosen-below-at}
 
 -- A number that is among some and passes a test is among those that pass it.
 any-filter : (test : ℕ → Bool) (q : ℕ) (xs : List ℕ) → test q ≡ true

@@ -1,13 +1,12 @@
 -- Laws of wires that are kept as flits and marks.
-use Rattle.std.proofs.Common.{ℕ, ◌<◌, ◌≡◌, ◌≢◌, ◌+◌, ◌-◌, ◌∙◌, refl, sym, ap, arith, inl, inr}
-use Rattle.std.proofs.Common.{◌↔◌, zero, suc, Bool, true, false, not, IsTrue}
-use Rattle.std.proofs.Common.{Option, Some, None, IsSome, is_some}
-use Rattle.std.proofs.Common.{List, [], ◌∷◌, eqb, filter, length, length-set, replicate, slice_get}
-use Rattle.std.specs.Prelude.{unwrap_or}
-use Rattle.std.specs.List.{range_with_len, slice_set}
-use Rattle.std.proofs.lemmas.Bool.{cases_Bool, cases_eq, cases_lt, ne_eqb}
+use Rattle.std.proofs.Common.{ℕ, ◌<◌, ◌≡◌, ◌≢◌, ◌+◌, ◌-◌, ◌∙◌, refl, sym, ap, arith, inl, inr, ◌↔◌}
+use Rattle.std.proofs.Common.{zero, suc, Bool, true, false, not, IsTrue, Option, Some, None, IsSome}
+use Rattle.std.proofs.Common.{is_some, List, [], ◌∷◌, eqb, filter, length, length-set, replicate}
+use Rattle.std.proofs.Common.{slice_get, unwrap_or, ne_eqb}
+use Rattle.std.proofs.lemmas.Bool.{cases_Bool, cases_eq, cases_lt}
 use Rattle.std.proofs.lemmas.List.FromFn.{length-map-range_with_len, get_or-map-range_with_len}
 use Rattle.std.proofs.lemmas.Option.{slice_get-get_or, slice_get_past}
+use Rattle.std.specs.List.{range_with_len, slice_set}
 use Rattle.aeth_base.proofs.Lists.{same_list, slice_get-slice_set_same, slice_get-slice_set_other}
 use Rattle.aeth_base.proofs.MarkedLemmas.{filter-alike, filter-short}
 use Rattle.aeth_base.proofs.TestLemmas.{is_some-false}

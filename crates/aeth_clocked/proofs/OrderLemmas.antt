@@ -1,10 +1,8 @@
 -- Laws of orders: each number below the length stands in an order, once, and no other does.
 use Rattle.std.proofs.Common.{ℕ, ◌+◌, ◌-◌, ◌%◌, ◌^◌, ◌<◌, ◌≡◌, refl, sym, ◌∙◌, inl, inr, arith}
-use Rattle.std.proofs.Common.{true, eqb, List, length, Some, slice_get}
-use Rattle.std.specs.List.{range_with_len, All, Contains, IsDistinct, list_any}
+use Rattle.std.proofs.Common.{true, eqb, List, length, Some, slice_get, eqb-true, eq-eqb}
 use Rattle.std.proofs.Math.Nat.{mod-lt, mod-eq_of_lt, mod-add-mod, add-mod_right}
-use Rattle.std.proofs.lemmas.Bool.{cases_lt, eqb-true, eq-eqb}
-use Rattle.std.proofs.lemmas.Bool.Decides.{nat_tests}
+use Rattle.std.proofs.lemmas.Bool.{cases_lt, Decides.nat_tests}
 use Rattle.std.proofs.lemmas.List.FromFn.{length-range_with_len, get_or-range_with_len}
 use Rattle.std.proofs.lemmas.List.FromFn.{length-map-range_with_len, get_or-map-range_with_len}
 use Rattle.std.proofs.lemmas.List.Sorted.{All-permutation, Contains-permutation}
@@ -12,6 +10,7 @@ use Rattle.std.proofs.lemmas.List.Folds.{list_any_at}
 use Rattle.std.proofs.lemmas.Map.Views.{Contains-from_any}
 use Rattle.std.proofs.lemmas.Map.Keys.{IsDistinct-from_apart, IsDistinct-IsPermutation}
 use Rattle.std.proofs.lemmas.Option.{slice_get_within, get_or_from_slice_get}
+use Rattle.std.specs.List.{range_with_len, All, Contains, IsDistinct, list_any}
 use Rattle.aeth_clocked.specs.Order.{AreChosen, IsOrder, rotation_of}
 use Rattle.aeth_base.proofs.Permutations.{IsPermutation-from_all}
 use Rattle.aeth_base.proofs.Ranges.{All-range, Contains-range}

@@ -1,18 +1,13 @@
 -- What stays of components that rest, once all others have had their turn.
-use Rattle.std.proofs.Common.{ℕ, ◌≤◌, ◌≡◌, refl, sym, ap, ◌∙◌, inl, inr}
-use Rattle.std.proofs.Common.{Bool, true, false, cond, eqb, Option, Some, None}
-use Rattle.std.proofs.Common.{List, [], ◌∷◌, get_or, length, map, take, slice_get}
-use Rattle.std.specs.List.{list_any}
-use Rattle.std.specs.Option.{option_map, option_map_or}
-use Rattle.std.specs.Prelude.{unwrap_or}
-use Rattle.std.proofs.lemmas.Bool.{cases_Bool, eqb-true}
-use Rattle.std.proofs.lemmas.List.{take_all}
-use Rattle.std.proofs.lemmas.Option.{slice_get-get_or, slice_get-map}
+use Rattle.std.proofs.Common.{ℕ, ◌≤◌, ◌≡◌, refl, sym, ap, ◌∙◌, inl, inr, Bool, true, false, cond}
+use Rattle.std.proofs.Common.{eqb, Option, Some, None, List, [], ◌∷◌, get_or, length, map, take}
+use Rattle.std.proofs.Common.{slice_get, unwrap_or, eqb-true, take_all}
+use Rattle.std.proofs.lemmas.{Bool.cases_Bool, Option.slice_get-get_or, Option.slice_get-map}
+use Rattle.std.specs.{List.list_any, Option.option_map, Option.option_map_or}
 use Rattle.aeth_base.proofs.Lists.{same_list}
-use Rattle.aeth_clocked.specs.declared.flit.Flit.{Flit}
-use Rattle.aeth_clocked.specs.Driven.{AreDisjoint, driven, is_output}
-use Rattle.aeth_clocked.specs.Resting.{AllOthers, RestsDrive, is_chosen}
-use Rattle.aeth_clocked.specs.Wires.{Drives}
+use Rattle.aeth_clocked.specs.{declared.flit.Flit.Flit, Driven.AreDisjoint, Driven.driven}
+use Rattle.aeth_clocked.specs.{Driven.is_output, Resting.AllOthers, Resting.RestsDrive}
+use Rattle.aeth_clocked.specs.{Resting.is_chosen, Wires.Drives}
 use Rattle.aeth_clocked.proofs.DrivenLemmas.{driven-at, is_output-at, is_output-some}
 use Rattle.aeth_clocked.proofs.DrivenTurns.{is_output_among}
 use Rattle.aeth_clocked.proofs.Turns.{Changed, is_among}

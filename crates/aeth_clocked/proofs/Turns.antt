@@ -1,16 +1,14 @@
 -- Components that have changed one after the other, by the numbers whose turn has come.
-use Rattle.std.proofs.Common.{ℕ, ◌+◌, ◌≤◌, ◌≡◌, refl, sym, ap, ◌∙◌, inl, inr, arith}
-use Rattle.std.proofs.Common.{Bool, true, false, cond, eqb, ◌||◌, Option, Some, None}
-use Rattle.std.proofs.Common.{List, [], ◌∷◌, ◌++◌, length, length-set, map, take, get_or, slice_get}
-use Rattle.std.specs.List.{list_any, slice_set}
-use Rattle.std.specs.Option.{option_map}
-use Rattle.std.proofs.lemmas.Bool.{cases_eq, cases_lt, eq-eqb}
-use Rattle.std.proofs.lemmas.Bool.Decides.{nat_tests}
-use Rattle.std.proofs.lemmas.List.{take_all, get_or-take, length-take}
+use Rattle.std.proofs.Common.{ℕ, ◌+◌, ◌≤◌, ◌≡◌, refl, sym, ap, ◌∙◌, inl, inr, arith, Bool, true}
+use Rattle.std.proofs.Common.{false, cond, eqb, ◌||◌, Option, Some, None, List, [], ◌∷◌, ◌++◌}
+use Rattle.std.proofs.Common.{length, length-set, map, take, get_or, slice_get, eq-eqb, take_all}
+use Rattle.std.proofs.Common.{get_or-take, length-take}
+use Rattle.std.proofs.lemmas.Bool.{cases_eq, cases_lt, Decides.nat_tests}
 use Rattle.std.proofs.lemmas.List.Folds.{list_any-append, list_any_none}
 use Rattle.std.proofs.lemmas.Map.Keys.{apart_from_distinct}
 use Rattle.std.proofs.lemmas.Option.{slice_get-map, slice_get-get_or, get_or_from_slice_get}
 use Rattle.std.proofs.lemmas.Option.{slice_get_within, slice_get_past}
+use Rattle.std.specs.{List.list_any, List.slice_set, Option.option_map}
 use Rattle.aeth_base.proofs.Lists.{same_list, slice_get-slice_set_same, slice_get-slice_set_other}
 use Rattle.aeth_base.proofs.Lists.{take-slice_get}
 use Rattle.aeth_clocked.specs.Order.{AreChosen, IsOrder}

@@ -1,10 +1,7 @@
 -- Laws of the marks of links with a flit.
-use Rattle.std.proofs.Common.{ℕ, ◌<◌, ◌≤◌, ◌+◌, ◌≡◌, ◌∙◌, sym, ap, inl, inr}
-use Rattle.std.proofs.Common.{Option, None, IsSome, is_some}
-use Rattle.std.proofs.Common.{List, [], ◌∷◌, length}
-use Rattle.std.specs.Prelude.{unwrap_or}
-use Rattle.std.proofs.lemmas.Bool.{cases_lt}
-use Rattle.std.proofs.lemmas.Option.{slice_get_past}
+use Rattle.std.proofs.Common.{ℕ, ◌<◌, ◌≤◌, ◌+◌, ◌≡◌, ◌∙◌, sym, ap, inl, inr, Option, None, IsSome}
+use Rattle.std.proofs.Common.{is_some, List, [], ◌∷◌, length, unwrap_or}
+use Rattle.std.proofs.lemmas.{Bool.cases_lt, Option.slice_get_past}
 use Rattle.aeth_clocked.specs.declared.flit.Flit.{Flit}
 use Rattle.aeth_clocked.specs.Wires.{flit_on, has_flit, used_from}
 use Rattle.aeth_base.proofs.MarkedLemmas.{next-passing, none-passing}

@@ -1,16 +1,14 @@
 -- Laws of what components do to wires.
-use Rattle.std.proofs.Common.{ℕ, ◌<◌, ◌≡◌, ◌↔◌, refl, sym, ap, ◌∙◌, inl, inr, arith}
-use Rattle.std.proofs.Common.{Bool, true, eqb, ◌||◌, Option, Some, None}
-use Rattle.std.proofs.Common.{List, length, length-set, map}
-use Rattle.std.specs.List.{range_with_len, slice_set}
-use Rattle.std.proofs.lemmas.Bool.{cases_eq, cases_lt, eq-eqb, eqb-true}
-use Rattle.std.proofs.lemmas.Bool.Decides.{nat_tests}
+use Rattle.std.proofs.Common.{ℕ, ◌<◌, ◌≡◌, ◌↔◌, refl, sym, ap, ◌∙◌, inl, inr, arith, Bool, true}
+use Rattle.std.proofs.Common.{eqb, ◌||◌, Option, Some, None, List, length, length-set, map, eq-eqb}
+use Rattle.std.proofs.Common.{eqb-true}
+use Rattle.std.proofs.lemmas.Bool.{cases_eq, cases_lt, Decides.nat_tests}
 use Rattle.std.proofs.lemmas.List.FromFn.{length-map-range_with_len, get_or-map-range_with_len}
 use Rattle.std.proofs.lemmas.Option.{slice_get-get_or, slice_get_past}
+use Rattle.std.specs.List.{range_with_len, slice_set}
 use Rattle.aeth_base.proofs.Lists.{same_list, slice_get-slice_set_same, slice_get-slice_set_other}
-use Rattle.aeth_clocked.specs.declared.flit.Flit.{Flit}
-use Rattle.aeth_clocked.specs.Resting.{HasNoFlit}
-use Rattle.aeth_clocked.specs.Wires.{AreLinks, Drives, flit_on}
+use Rattle.aeth_clocked.specs.{declared.flit.Flit.Flit, Resting.HasNoFlit, Wires.AreLinks}
+use Rattle.aeth_clocked.specs.{Wires.Drives, Wires.flit_on}
 
 -- A component with one output: that output is a link.
 pub AreLinks-one : (output count : ℕ) → AreLinks (λ link. eqb output link) count → output < count

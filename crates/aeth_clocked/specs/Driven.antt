@@ -5,8 +5,8 @@
 --   driven, driven_wires      the flit on a link, and the flits on all links
 --
 -- Simultaneous components over shared wires: this project's own.
-use Rattle.std.specs.Prelude.{◌≡◌, ℕ, Bool, true, if◌then◌else◌}
-use Rattle.std.specs.Prelude.{List, [], ◌∷◌, map, Option, Some, None, slice_get}
+use Rattle.std.proofs.Common.{◌≡◌, ℕ, Bool, true, if◌then◌else◌, List, [], ◌∷◌, map, Option, Some}
+use Rattle.std.proofs.Common.{None, slice_get}
 use Rattle.std.specs.List.{list_any, range_with_len}
 use Rattle.aeth_clocked.specs.declared.flit.Flit.{Flit}
 

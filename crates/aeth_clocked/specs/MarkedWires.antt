@@ -1,8 +1,8 @@
 -- How wires are kept: a flit at the place of each link, which counts where the link is marked. What
 -- stands at the place of any other link is nobody's.
 -- This project's own.
-use Rattle.std.specs.Prelude.{◌≡◌, ℕ, ◌<◌, ◌≤◌, ◌^◌, if◌then◌else◌}
-use Rattle.std.specs.Prelude.{List, length, map, Option, None, slice_get}
+use Rattle.std.proofs.Common.{◌≡◌, ℕ, ◌<◌, ◌≤◌, ◌^◌, if◌then◌else◌, List, length, map, Option, None}
+use Rattle.std.proofs.Common.{slice_get}
 use Rattle.std.specs.List.{range_with_len}
 use Rattle.aeth_base.specs.Marks.{bit_of, is_marked, room_of}
 use Rattle.aeth_clocked.specs.declared.flit.Flit.{Flit}

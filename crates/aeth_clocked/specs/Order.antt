@@ -1,6 +1,6 @@
 -- Orders of components, as lists of their numbers.
 -- Turns within a cycle: this project's own.
-use Rattle.std.specs.Prelude.{ℕ, ◌+◌, ◌%◌, ◌^◌, ◌<◌, ◌==◌, List, length, map, IsPermutation, All}
+use Rattle.std.proofs.Common.{ℕ, ◌+◌, ◌%◌, ◌^◌, ◌<◌, ◌==◌, List, length, map, IsPermutation, All}
 use Rattle.std.specs.List.{range_with_len, IsDistinct}
 
 -- A permutation of the numbers below its length, which fits 32 bits.

@@ -5,10 +5,9 @@
 --   is_chosen, AllOthers      the components that take a turn, and what holds of all others
 --
 -- Idle hardware that isn't stepped: this project's own.
-use Rattle.std.specs.Prelude.{◌≡◌, ℕ, ◌==◌, Bool, true, false, List, Option, Some, None, slice_get}
+use Rattle.std.proofs.Common.{◌≡◌, ℕ, ◌==◌, Bool, true, false, List, Option, Some, None, slice_get}
 use Rattle.std.specs.List.{list_any}
-use Rattle.aeth_clocked.specs.declared.flit.Flit.{Flit}
-use Rattle.aeth_clocked.specs.Wires.{flit_on}
+use Rattle.aeth_clocked.specs.{declared.flit.Flit.Flit, Wires.flit_on}
 
 -- The wires have no flit on any link of the set.
 abbrev pub HasNoFlit : (ℕ → Bool) → List (Option Flit) → Type 0

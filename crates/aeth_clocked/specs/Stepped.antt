@@ -1,8 +1,7 @@
 -- What one cycle makes of components, between which nothing but wires passes.
 -- Simultaneous components over shared wires: this project's own.
-use Rattle.std.specs.Prelude.{ℕ, Bool, List, map, Option}
-use Rattle.aeth_clocked.specs.declared.flit.Flit.{Flit}
-use Rattle.aeth_clocked.specs.Driven.{driven_wires}
+use Rattle.std.proofs.Common.{ℕ, Bool, List, map, Option}
+use Rattle.aeth_clocked.specs.{declared.flit.Flit.Flit, Driven.driven_wires}
 
 -- What the trait of components says of one: its outputs and inputs, what it emits on an output in
 -- a cycle, what it is after that, and what it is once it has latched these wires.

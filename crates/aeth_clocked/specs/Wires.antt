@@ -1,8 +1,8 @@
 -- What components do to wires: a flit or none on each link, listed by link numbers. Sets of links
 -- are tests.
 -- Simultaneous components over shared wires: this project's own.
-use Rattle.std.specs.Prelude.{◌≡◌, ℕ, ◌<◌, ◌-◌, Bool, true, if◌then◌else◌}
-use Rattle.std.specs.Prelude.{List, filter, length, Option, Some, None, is_some, slice_get, unwrap_or}
+use Rattle.std.proofs.Common.{◌≡◌, ℕ, ◌<◌, ◌-◌, Bool, true, if◌then◌else◌, List, filter, length}
+use Rattle.std.proofs.Common.{Option, Some, None, is_some, slice_get, unwrap_or}
 use Rattle.std.specs.List.{range_with_len}
 use Rattle.aeth_clocked.specs.declared.flit.Flit.{Flit}
 

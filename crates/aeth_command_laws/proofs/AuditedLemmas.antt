@@ -1,36 +1,27 @@
 -- `audit` says that a log is clean exactly where no row of it breaks a rule.
-use Rattle.std.proofs.Common.{◌≡◌, ◌∙◌, ℕ, List, [], Option, Some, ap, arith, filter, length}
-use Rattle.std.proofs.Common.{refl, subst, sym}
-use Rattle.std.specs.Prelude.{codes, nat_lt}
-use Rattle.std.proofs.lemmas.List.Elements.{All-nil}
-use Rattle.std.proofs.lemmas.List.Sorted.{IsNonDecreasingBy-short}
+use Rattle.std.proofs.Common.{◌≡◌, ◌∙◌, ℕ, List, [], Option, Some, ap, arith, filter, length, refl}
+use Rattle.std.proofs.Common.{subst, sym, codes, nat_lt}
+use Rattle.std.proofs.lemmas.List.{Elements.All-nil, Sorted.IsNonDecreasingBy-short}
 use Rattle.std.proofs.lemmas.Option.{same_Some}
 use Rattle.aeth_accepted.specs.Inputs.{AreAccepted, Inputs, design_on, run_of}
-use Rattle.aeth_answers.specs.Job.{Job, done}
-use Rattle.aeth_answers.specs.Status.{done_status}
-use Rattle.aeth_answers.specs.Task.{job_with}
+use Rattle.aeth_answers.specs.{Job.Job, Job.done, Status.done_status, Task.job_with}
 use Rattle.aeth_app.specs.AppFile.{app_of}
-use Rattle.aeth_audit.specs.Audit.{audit_of}
-use Rattle.aeth_audit.specs.Breaks.{IsAuditOf}
-use Rattle.aeth_audit.specs.LinkLog.{link_log_of}
-use Rattle.aeth_audit.specs.declared.row.LinkRow.{LinkRow}
-use Rattle.aeth_audit.specs.declared.verdict.Audit.{Audit}
-use Rattle.aeth_audit.specs.declared.verdict.Audit.TheVariants.{Clean, Fault}
+use Rattle.aeth_audit.specs.{Audit.audit_of, Breaks.IsAuditOf, LinkLog.link_log_of}
+use Rattle.aeth_audit.specs.{declared.row.LinkRow.LinkRow, declared.verdict.Audit.Audit}
+use Rattle.aeth_audit.specs.{declared.verdict.Audit.TheVariants.Clean}
+use Rattle.aeth_audit.specs.{declared.verdict.Audit.TheVariants.Fault}
 use Rattle.aeth_base.proofs.Members.{Contains-slice_get}
-use Rattle.aeth_check.specs.Verdict.{verdict_of}
-use Rattle.aeth_check.specs.declared.verdict.Verdict.{Verdict}
+use Rattle.aeth_check.specs.{Verdict.verdict_of, declared.verdict.Verdict.Verdict}
 use Rattle.aeth_chip.specs.ChipFile.{chip_of}
-use Rattle.aeth_files.specs.Plans.{on_verdict}
-use Rattle.aeth_files.proofs.ToldLemmas.{file_kept}
+use Rattle.aeth_files.{specs.Plans.on_verdict, proofs.ToldLemmas.file_kept}
 use Rattle.aeth_group.specs.Members.{groups_of}
 use Rattle.aeth_plan.specs.PlanText.{plan_of}
-use Rattle.aeth_plan_commands.specs.Audit.{audit_job, audit_task, audited, planned_task, switched_task}
+use Rattle.aeth_plan_commands.specs.Audit.{audit_job, audit_task, audited, planned_task}
+use Rattle.aeth_plan_commands.specs.Audit.{switched_task}
 use Rattle.aeth_plan_commands.specs.declared.audit.AuditFiles.{AuditFiles}
 use Rattle.aeth_reconf.specs.Timeline.{timeline_of}
-use Rattle.aeth_trace.specs.Switches.{switches_of}
-use Rattle.aeth_trace.specs.declared.words.WordRow.{WordRow}
-use Rattle.aeth_command_laws.specs.Logged.{IsAudited, IsCleanLog, IsLogTold, LogFor}
-use Rattle.aeth_command_laws.specs.Logged.{spans_for}
+use Rattle.aeth_trace.specs.{Switches.switches_of, declared.words.WordRow.WordRow}
+use Rattle.aeth_command_laws.specs.Logged.{IsAudited, IsCleanLog, IsLogTold, LogFor, spans_for}
 use Rattle.aeth_command_laws.proofs.ToldLemmas.{FilesTell, RunsTell, design_kept, file_read}
 use Rattle.aeth_command_laws.proofs.ToldLemmas.{not_refused, plan_kept}
 

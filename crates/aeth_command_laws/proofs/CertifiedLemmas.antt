@@ -1,17 +1,11 @@
 -- What `explain` prints are certificates, and a text of them is answered to be complete exactly where the
 -- lists of each try are one.
-use Rattle.std.proofs.Common.{◌≡◌, ◌≢◌, ◌∙◌, ◌+◌, ◌∷◌, [], ℕ, List, Option, Some, Contains, ap, arith}
-use Rattle.std.proofs.Common.{length, map, refl, sym}
-use Rattle.std.specs.Prelude.{codes, unwrap_or}
-use Rattle.std.proofs.lemmas.List.{length-map}
-use Rattle.std.proofs.lemmas.Option.{same_Some}
-use Rattle.aeth_alloc.specs.Allocation.{allocation}
-use Rattle.aeth_alloc.specs.Prices.{prices_of}
-use Rattle.aeth_alloc.specs.Trials.{refused_of}
+use Rattle.std.proofs.Common.{◌≡◌, ◌≢◌, ◌∙◌, ◌+◌, ◌∷◌, [], ℕ, List, Option, Some, Contains, ap}
+use Rattle.std.proofs.Common.{arith, length, map, refl, sym, codes, unwrap_or}
+use Rattle.std.proofs.lemmas.{List.length-map, Option.same_Some}
+use Rattle.aeth_alloc.specs.{Allocation.allocation, Prices.prices_of, Trials.refused_of}
 use Rattle.aeth_alloc.proofs.TrialLemmas.{trials-lack, trials-tell}
-use Rattle.aeth_answers.specs.Job.{Job, done}
-use Rattle.aeth_answers.specs.Status.{refused_status}
-use Rattle.aeth_answers.specs.Task.{ends, job_with}
+use Rattle.aeth_answers.specs.{Job.Job, Job.done, Status.refused_status, Task.ends, Task.job_with}
 use Rattle.aeth_app.specs.App.{IsApp, IsAppOf}
 use Rattle.aeth_base.specs.declared.ids.LinkId.{LinkId}
 use Rattle.aeth_chip.specs.Chip.{IsChip}
@@ -21,18 +15,17 @@ use Rattle.aeth_explain.specs.CutsText.{cuts_of_text, line_of}
 use Rattle.aeth_explain.specs.Verdict.{verdict_of}
 use Rattle.aeth_explain.specs.declared.verdict.CutVerdict.{CutVerdict}
 use Rattle.aeth_explain.specs.declared.verdict.CutVerdict.TheVariants.{Complete, NotDead, Open}
-use Rattle.aeth_explain.proofs.ReadLemmas.{read-count}
-use Rattle.aeth_explain.proofs.RefusalLemmas.{certificate-exists}
-use Rattle.aeth_explain.proofs.VerdictLemmas.{verdict-complete}
+use Rattle.aeth_explain.proofs.{ReadLemmas.read-count, RefusalLemmas.certificate-exists}
+use Rattle.aeth_explain.proofs.{VerdictLemmas.verdict-complete}
 use Rattle.aeth_files.proofs.ToldLemmas.{file_kept}
 use Rattle.aeth_group.specs.Members.{groups_of}
 use Rattle.aeth_paths.specs.Trials.{TrialData}
 use Rattle.aeth_plan.specs.declared.design.Design.{Design}
 use Rattle.aeth_text.specs.Order.{line_after}
-use Rattle.aeth_explain_commands.specs.Explain.{cert_task, confirm_task, explain_task}
-use Rattle.aeth_explain_commands.specs.Explain.{explanation, flaw_of, refused_tries, verdicts_job}
-use Rattle.aeth_command_laws.specs.Explained.{AreCertificates, IsConfirmed}
-use Rattle.aeth_command_laws.specs.Explained.{IsExplained, refusals_of}
+use Rattle.aeth_explain_commands.specs.Explain.{cert_task, confirm_task, explain_task, explanation}
+use Rattle.aeth_explain_commands.specs.Explain.{flaw_of, refused_tries, verdicts_job}
+use Rattle.aeth_command_laws.specs.Explained.{AreCertificates, IsConfirmed, IsExplained}
+use Rattle.aeth_command_laws.specs.Explained.{refusals_of}
 use Rattle.aeth_command_laws.proofs.ToldLemmas.{FilesTell, design_kept}
 
 module _ (design : Design) (is_chip : IsChip design.chip) where

@@ -1,33 +1,24 @@
 -- What `chain` prints is the log of a chain whose words have landed when they are due.
-use Rattle.std.proofs.Common.{◌≡◌, ◌<◌, ℕ, List, [], Option, Some, length, sym}
-use Rattle.std.specs.Prelude.{Ok, codes}
+use Rattle.std.proofs.Common.{◌≡◌, ◌<◌, ℕ, List, [], Option, Some, length, sym, Ok, codes}
 use Rattle.std.proofs.lemmas.Option.{same_Some}
 use Rattle.aeth_accepted.specs.Inputs.{Inputs}
-use Rattle.aeth_answers.specs.Job.{Job}
-use Rattle.aeth_answers.specs.Status.{done_status}
-use Rattle.aeth_answers.specs.Task.{job_with}
+use Rattle.aeth_answers.specs.{Job.Job, Status.done_status, Task.job_with}
 use Rattle.aeth_app.specs.App.{AppData}
 use Rattle.aeth_base.specs.declared.ids.UseId.{UseId}
-use Rattle.aeth_chain.specs.Chain.{IsChain, legs_of}
-use Rattle.aeth_chain.specs.ChainBounds.{AreDueWordsLanded}
-use Rattle.aeth_chain.specs.ChainInputs.{AreTabled}
-use Rattle.aeth_chain.specs.declared.item.ChainItem.{ChainItem}
-use Rattle.aeth_chain.specs.ChainItems.{items_of}
-use Rattle.aeth_chain.specs.ItemNames.{AreItemNames}
-use Rattle.aeth_chain.specs.Shapes.{AreShapesIn, shapes_in}
-use Rattle.aeth_chain.specs.declared.names.ItemName.{ItemName}
+use Rattle.aeth_chain.specs.{Chain.IsChain, Chain.legs_of, ChainBounds.AreDueWordsLanded}
+use Rattle.aeth_chain.specs.{ChainInputs.AreTabled, declared.item.ChainItem.ChainItem}
+use Rattle.aeth_chain.specs.{ChainItems.items_of, ItemNames.AreItemNames, Shapes.AreShapesIn}
+use Rattle.aeth_chain.specs.{Shapes.shapes_in, declared.names.ItemName.ItemName}
 use Rattle.aeth_chip.specs.Chip.{ChipData}
 use Rattle.aeth_files.proofs.ToldLemmas.{file_kept}
 use Rattle.aeth_group.specs.Members.{groups_of}
-use Rattle.aeth_plan.specs.Plan.{PlanData}
-use Rattle.aeth_plan.specs.Design.{IsDesign}
-use Rattle.aeth_plan_commands.specs.Chain.{chain_job, chain_task, items_task, named_task, planned_task}
-use Rattle.aeth_plan_commands.specs.Chain.{words_task}
+use Rattle.aeth_plan.specs.{Plan.PlanData, Design.IsDesign}
+use Rattle.aeth_plan_commands.specs.Chain.{chain_job, chain_task, items_task, named_task}
+use Rattle.aeth_plan_commands.specs.Chain.{planned_task, words_task}
 use Rattle.aeth_plan_commands.specs.declared.chain.ChainFiles.{ChainFiles}
 use Rattle.aeth_server.specs.declared.shape.ChannelShape.{ChannelShape}
 use Rattle.aeth_tables.specs.Tables.{tables_of}
-use Rattle.aeth_trace.specs.Receivers.{receivers_of}
-use Rattle.aeth_trace.specs.Words.{AreWordsOf, words_of}
+use Rattle.aeth_trace.specs.{Receivers.receivers_of, Words.AreWordsOf, Words.words_of}
 use Rattle.aeth_command_laws.specs.Chained.{IsChained}
 use Rattle.aeth_command_laws.proofs.ToldLemmas.{FilesTell, RunsTell, design_kept, not_refused}
 use Rattle.aeth_command_laws.proofs.ToldLemmas.{plan_kept, use_kept, value_kept}

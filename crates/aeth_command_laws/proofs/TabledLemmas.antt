@@ -1,40 +1,30 @@
 -- What `tables` prints binds each run of its plan.
 use Rattle.std.proofs.Common.{◌≡◌, ◌<◌, ◌∙◌, ℕ, List, [], ◌∷◌, Contains, Option, Some, ap, arith}
-use Rattle.std.proofs.Common.{length, map, refl, slice_get, suc, subst, sym, zero}
-use Rattle.std.specs.List.{range_with_len, zip}
-use Rattle.std.proofs.lemmas.Bool.{eq-eqb}
+use Rattle.std.proofs.Common.{length, map, refl, slice_get, suc, subst, sym, zero, eq-eqb}
 use Rattle.std.proofs.lemmas.List.Elements.{Contains-append_left, Contains-append_right}
 use Rattle.std.proofs.lemmas.Option.{same_Some}
+use Rattle.std.specs.List.{range_with_len, zip}
 use Rattle.aeth_accepted.specs.Inputs.{AreAccepted, Inputs, IsTabled, design_of, row_at, run_of}
 use Rattle.aeth_accepted.proofs.GivenGrants.{connection-known}
-use Rattle.aeth_answers.specs.Job.{Job}
-use Rattle.aeth_answers.specs.Status.{done_status}
-use Rattle.aeth_answers.specs.Task.{ends, job_with}
+use Rattle.aeth_answers.specs.{Job.Job, Status.done_status, Task.ends, Task.job_with}
 use Rattle.aeth_app.specs.App.{AppData}
-use Rattle.aeth_base.specs.declared.ids.Channel.{Channel}
-use Rattle.aeth_base.specs.declared.ids.UseId.{UseId}
+use Rattle.aeth_base.specs.declared.ids.{Channel.Channel, UseId.UseId}
 use Rattle.aeth_base.specs.Sides.{channels_with}
-use Rattle.aeth_base.proofs.Lists.{map-at, map-slice_get}
-use Rattle.aeth_base.proofs.Members.{All-slice_get, Contains-filter, Contains-flat_map}
-use Rattle.aeth_base.proofs.Members.{Contains-map, Contains-slice_get, Contains-there}
-use Rattle.aeth_base.proofs.Members.{slice_get-Contains}
-use Rattle.aeth_base.proofs.Ranges.{Contains-range}
-use Rattle.aeth_base.proofs.SideLemmas.{own-channel}
+use Rattle.aeth_base.proofs.{Lists.map-at, Lists.map-slice_get, Members.All-slice_get}
+use Rattle.aeth_base.proofs.{Members.Contains-filter, Members.Contains-flat_map}
+use Rattle.aeth_base.proofs.{Members.Contains-map, Members.Contains-slice_get}
+use Rattle.aeth_base.proofs.{Members.Contains-there, Members.slice_get-Contains}
+use Rattle.aeth_base.proofs.{Ranges.Contains-range, SideLemmas.own-channel}
 use Rattle.aeth_chip.specs.Chip.{ChipData}
 use Rattle.aeth_group.specs.Members.{group_at, groups_of, has_at}
 use Rattle.aeth_group.proofs.MemberLemmas.{connections-groups_of}
-use Rattle.aeth_ni.specs.Limits.{queues_of_interface}
-use Rattle.aeth_ni.specs.declared.row.ChannelRow.{ChannelRow}
-use Rattle.aeth_plan.specs.Plan.{PlanData, name_at}
-use Rattle.aeth_plan.specs.Design.{IsDesign}
+use Rattle.aeth_ni.specs.{Limits.queues_of_interface, declared.row.ChannelRow.ChannelRow}
+use Rattle.aeth_plan.specs.{Plan.PlanData, Plan.name_at, Design.IsDesign}
 use Rattle.aeth_machine.specs.RunInputs.{inputs_of}
 use Rattle.aeth_reconf.specs.Rows.{channels_that, rows_that}
-use Rattle.aeth_report.specs.Design.{shape_at}
-use Rattle.aeth_report.specs.Flows.{flow_of}
-use Rattle.aeth_report.specs.declared.session.Session.{Session}
-use Rattle.aeth_server.specs.ChannelShape.{shape_of}
-use Rattle.aeth_server.specs.Shape.{Shape, channel_latency}
-use Rattle.aeth_server.specs.declared.shape.ChannelShape.{ChannelShape}
+use Rattle.aeth_report.specs.{Design.shape_at, Flows.flow_of, declared.session.Session.Session}
+use Rattle.aeth_server.specs.{ChannelShape.shape_of, Shape.Shape, Shape.channel_latency}
+use Rattle.aeth_server.specs.{declared.shape.ChannelShape.ChannelShape}
 use Rattle.aeth_tables.specs.Promises.{HasNumbers, KeepPromises}
 use Rattle.aeth_tables.specs.TableText.{IsRowOf, entry_lines, lines_of_queue, lines_with, promised}
 use Rattle.aeth_tables.specs.TableText.{promised_of, queue_lines, queues_at, queues_with, rows_at}

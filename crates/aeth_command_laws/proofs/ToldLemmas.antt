@@ -1,54 +1,36 @@
 -- Laws of tasks that come to a job which refuses no file.
-use Rattle.std.proofs.Common.{◌≡◌, ◌≢◌, ◌≤◌, ◌<◌, ◌↔◌, ◌∙◌, ℕ, Bool, List, Option, Some, None, Result}
-use Rattle.std.proofs.Common.{Ok, Err, ap, arith, get_or, if◌then◌else◌, length, refl, slice_get}
-use Rattle.std.proofs.Common.{sym}
-use Rattle.std.specs.Prelude.{codes, nat_le, position}
+use Rattle.std.proofs.Common.{◌≡◌, ◌≢◌, ◌≤◌, ◌<◌, ◌↔◌, ◌∙◌, ℕ, Bool, List, Option, Some, None}
+use Rattle.std.proofs.Common.{Result, Ok, Err, ap, arith, get_or, if◌then◌else◌, length, refl}
+use Rattle.std.proofs.Common.{slice_get, sym, codes, nat_le, position, le-leb}
+use Rattle.std.proofs.lemmas.{List.length-map, List.Quantifiers.position-Some, Option.same_Some}
+use Rattle.std.proofs.lemmas.{Option.slice_get-get_or, Slice.Eq.bytes_eq-Decides}
 use Rattle.std.specs.Str.{bytes_eq}
-use Rattle.std.proofs.lemmas.Bool.{le-leb}
-use Rattle.std.proofs.lemmas.List.{length-map}
-use Rattle.std.proofs.lemmas.List.Quantifiers.{position-Some}
-use Rattle.std.proofs.lemmas.Option.{same_Some, slice_get-get_or}
-use Rattle.std.proofs.lemmas.Slice.Eq.{bytes_eq-Decides}
 use Rattle.aeth_accepted.specs.Inputs.{Inputs}
-use Rattle.aeth_app.specs.App.{AppData, IsApp, IsAppOf}
-use Rattle.aeth_app.specs.AppFile.{app_of}
-use Rattle.aeth_base.specs.Faults.{BrokenRule}
-use Rattle.aeth_base.specs.Limits.{max_cycles}
-use Rattle.aeth_base.specs.declared.ids.UseId.{UseId}
-use Rattle.aeth_check.specs.Verdict.{verdict_of}
-use Rattle.aeth_check.specs.declared.verdict.Verdict.TheVariants.{Accepted}
-use Rattle.aeth_chip.specs.Chip.{ChipData, IsChip}
-use Rattle.aeth_chip.specs.ChipFile.{chip_of}
+use Rattle.aeth_app.specs.{App.AppData, App.IsApp, App.IsAppOf, AppFile.app_of}
+use Rattle.aeth_base.specs.{Faults.BrokenRule, Limits.max_cycles, declared.ids.UseId.UseId}
+use Rattle.aeth_check.specs.{Verdict.verdict_of, declared.verdict.Verdict.TheVariants.Accepted}
+use Rattle.aeth_chip.specs.{Chip.ChipData, Chip.IsChip, ChipFile.chip_of}
 use Rattle.aeth_group.specs.Members.{GroupsData, groups_of}
-use Rattle.aeth_plan.specs.Plan.{PlanData}
-use Rattle.aeth_plan.specs.PlanText.{plan_of}
-use Rattle.aeth_plan.proofs.PlanReading.{plan_only}
-use Rattle.aeth_plan.specs.Accepted.{IsAccepted}
-use Rattle.aeth_plan.specs.declared.design.Design.{Design}
+use Rattle.aeth_plan.{specs.Plan.PlanData, specs.PlanText.plan_of, proofs.PlanReading.plan_only}
+use Rattle.aeth_plan.{specs.Accepted.IsAccepted, specs.declared.design.Design.Design}
 use Rattle.aeth_io.specs.Limits.{max_file_bytes}
 use Rattle.aeth_report.specs.Log.{LogData}
 use Rattle.aeth_tables.specs.Switching.{spans_of}
-use Rattle.aeth_trace.specs.Receivers.{AreReceiversOf, receivers_of}
-use Rattle.aeth_trace.specs.Spans.{SpanData}
-use Rattle.aeth_trace.specs.Switches.{AreSwitchesOf, switches_of, use_names}
-use Rattle.aeth_trace.specs.Words.{AreWordsOf, words_of}
-use Rattle.aeth_trace.specs.declared.receivers.PullRow.{PullRow}
-use Rattle.aeth_trace.specs.declared.switches.SwitchRow.{SwitchRow}
-use Rattle.aeth_trace.specs.declared.words.WordRow.{WordRow}
-use Rattle.aeth_answers.specs.Files.{judged_file, judgement}
-use Rattle.aeth_answers.specs.Job.{Job}
-use Rattle.aeth_answers.specs.Refusal.{refused_file, too_long}
-use Rattle.aeth_answers.specs.Status.{done_status, refused_status}
-use Rattle.aeth_answers.specs.Task.{Task, ends, job_with, told}
-use Rattle.aeth_files.specs.Files.{design_file}
-use Rattle.aeth_files.specs.Plans.{accepted_file}
-use Rattle.aeth_files.specs.Told.{IsTold}
-use Rattle.aeth_files.specs.Uses.{named_use, on_use, unknown_use}
-use Rattle.aeth_run_files.specs.declared.runs.RunFiles.{RunFiles}
+use Rattle.aeth_trace.specs.{Receivers.AreReceiversOf, Receivers.receivers_of, Spans.SpanData}
+use Rattle.aeth_trace.specs.{Switches.AreSwitchesOf, Switches.switches_of, Switches.use_names}
+use Rattle.aeth_trace.specs.{Words.AreWordsOf, Words.words_of, declared.receivers.PullRow.PullRow}
+use Rattle.aeth_trace.specs.{declared.switches.SwitchRow.SwitchRow, declared.words.WordRow.WordRow}
+use Rattle.aeth_answers.specs.{Files.judged_file, Files.judgement, Job.Job, Refusal.refused_file}
+use Rattle.aeth_answers.specs.{Refusal.too_long, Status.done_status, Status.refused_status}
+use Rattle.aeth_answers.specs.{Task.Task, Task.ends, Task.job_with, Task.told}
+use Rattle.aeth_files.specs.{Files.design_file, Plans.accepted_file, Told.IsTold, Uses.named_use}
+use Rattle.aeth_files.specs.{Uses.on_use, Uses.unknown_use}
 use Rattle.aeth_files.proofs.ToldLemmas.{file_kept, verdict_kept}
+use Rattle.aeth_run_files.specs.declared.runs.RunFiles.{RunFiles}
 use Rattle.aeth_design_commands.specs.Allocate.{allocate_job, allocate_task}
 use Rattle.aeth_run_commands.specs.Simulate.{simulate_task, simulation_job}
-use Rattle.aeth_run_commands.specs.TracedDesigns.{TracedData, traced_design, traced_for, traced_inputs}
+use Rattle.aeth_run_commands.specs.TracedDesigns.{TracedData, traced_design, traced_for}
+use Rattle.aeth_run_commands.specs.TracedDesigns.{traced_inputs}
 use Rattle.aeth_command_laws.specs.Told.{AreInputsTold, IsAllocated, IsDesignTold, IsPlanTold}
 use Rattle.aeth_command_laws.specs.Told.{IsSimulated}
 

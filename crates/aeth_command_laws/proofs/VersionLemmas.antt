@@ -1,71 +1,55 @@
 -- The job of a command is the same for a chip in version 1 and for the same text in version 2.
 use Rattle.std.proofs.Common.{◌≡◌, ◌≢◌, ◌∙◌, ℕ, Bool, true, false, List, Option, Some, None, Result}
-use Rattle.std.proofs.Common.{Ok, Err, ap, if◌then◌else◌, length, map, refl, sym}
-use Rattle.std.specs.Prelude.{⊤, codes, nat_le, pos, position}
-use Rattle.std.specs.Str.{bytes_eq}
-use Rattle.aeth_answers.specs.Files.{judged_file, judgement}
-use Rattle.aeth_answers.specs.Job.{Job, done}
-use Rattle.aeth_answers.specs.Refusal.{refused_file, too_long}
-use Rattle.aeth_answers.specs.Task.{Task, ends, job_with, reads, told}
-use Rattle.aeth_app.specs.App.{AppData}
-use Rattle.aeth_app.specs.AppFile.{app_of}
+use Rattle.std.proofs.Common.{Ok, Err, ap, if◌then◌else◌, length, map, refl, sym, codes, nat_le}
+use Rattle.std.proofs.Common.{pos, position}
+use Rattle.std.specs.{Prelude.⊤, Str.bytes_eq}
+use Rattle.aeth_answers.specs.{Files.judged_file, Files.judgement, Job.Job, Job.done}
+use Rattle.aeth_answers.specs.{Refusal.refused_file, Refusal.too_long, Task.Task, Task.ends}
+use Rattle.aeth_answers.specs.{Task.job_with, Task.reads, Task.told}
+use Rattle.aeth_app.specs.{App.AppData, AppFile.app_of}
 use Rattle.aeth_audit.specs.LinkLog.{link_log_of}
-use Rattle.aeth_base.specs.Faults.{BrokenRule}
-use Rattle.aeth_base.specs.declared.ids.UseId.{UseId}
+use Rattle.aeth_base.specs.{Faults.BrokenRule, declared.ids.UseId.UseId}
 use Rattle.aeth_chain.specs.ChainItems.{items_of}
 use Rattle.aeth_check.specs.Verdict.{verdict_of}
 use Rattle.aeth_check.specs.declared.verdict.Verdict.{Verdict}
 use Rattle.aeth_check.specs.declared.verdict.Verdict.TheVariants.{Accepted, Broken, Missing}
-use Rattle.aeth_chip.specs.Chip.{ChipData}
-use Rattle.aeth_chip.specs.ChipFile.{chip_of}
-use Rattle.aeth_chip.specs.Told.{version_of}
-use Rattle.aeth_chip.specs.Versions.{in_version_2}
-use Rattle.aeth_design_commands.specs.Allocate.{allocate_job}
-use Rattle.aeth_design_commands.specs.App.{app_text}
-use Rattle.aeth_design_commands.specs.Check as check
-use Rattle.aeth_design_commands.specs.Chip.{chip_text}
-use Rattle.aeth_design_commands.specs.Commands.{design_task}
-use Rattle.aeth_design_commands.specs.declared.command.DesignCommand.{DesignCommand}
-use Rattle.aeth_design_commands.specs.declared.command.DesignCommand.TheVariants as design
+use Rattle.aeth_chip.specs.{Chip.ChipData, ChipFile.chip_of, Told.version_of, Versions.in_version_2}
+use Rattle.aeth_design_commands.specs.{Allocate.allocate_job, App.app_text, Chip.chip_text}
+use Rattle.aeth_design_commands.specs.{Commands.design_task}
+use Rattle.aeth_design_commands.specs.{declared.command.DesignCommand.DesignCommand}
 use Rattle.aeth_document.specs.Document.{document_of}
 use Rattle.aeth_explain.specs.CutsText.{cuts_of_text, line_of}
 use Rattle.aeth_explain_commands.specs.Commands.{refusals_task}
 use Rattle.aeth_explain_commands.specs.Explain.{cert_task, explanation, refused_tries, verdicts_job}
 use Rattle.aeth_explain_commands.specs.declared.command.ExplainCommand.{ExplainCommand}
-use Rattle.aeth_explain_commands.specs.declared.command.ExplainCommand.TheVariants as refusals
-use Rattle.aeth_files.specs.Files.{chip_file, design_file}
-use Rattle.aeth_run_files.specs.TraceFiles.{receivers_file, switches_file}
-use Rattle.aeth_files.specs.Plans.{accepted_file, on_verdict}
-use Rattle.aeth_run_files.specs.Runs.{traced_files}
-use Rattle.aeth_files.specs.Uses.{named_use, on_use}
-use Rattle.aeth_run_files.specs.declared.runs.RunFiles.{RunFiles}
+use Rattle.aeth_files.specs.{Files.chip_file, Files.design_file, Plans.accepted_file}
+use Rattle.aeth_files.specs.{Plans.on_verdict, Uses.named_use, Uses.on_use}
+use Rattle.aeth_run_files.specs.{TraceFiles.receivers_file, TraceFiles.switches_file}
+use Rattle.aeth_run_files.specs.{Runs.traced_files, declared.runs.RunFiles.RunFiles}
 use Rattle.aeth_group.specs.Members.{groups_of}
 use Rattle.aeth_io.specs.Limits.{max_file_bytes}
-use Rattle.aeth_plan.specs.Plan.{PlanData}
-use Rattle.aeth_plan.specs.PlanText.{plan_of}
-use Rattle.aeth_plan_commands.specs.Audit as audit
-use Rattle.aeth_plan_commands.specs.Audit.{audit_job, audited, log_task, switched_task}
-use Rattle.aeth_plan_commands.specs.Chain as chain
-use Rattle.aeth_plan_commands.specs.Chain.{chain_job, items_task, named_task, pulled_task, words_task}
-use Rattle.aeth_plan_commands.specs.Commands.{plan_task}
-use Rattle.aeth_plan_commands.specs.PlannedUses.{plan_for, use_for}
-use Rattle.aeth_plan_commands.specs.RouteTables.{route_tables_job}
-use Rattle.aeth_plan_commands.specs.Tables.{tables_job}
-use Rattle.aeth_plan_commands.specs.declared.command.PlanCommand.{PlanCommand}
-use Rattle.aeth_plan_commands.specs.declared.command.PlanCommand.TheVariants as plan
-use Rattle.aeth_plan.specs.declared.design.Design.{Design}
+use Rattle.aeth_plan.specs.{Plan.PlanData, PlanText.plan_of, declared.design.Design.Design}
+use Rattle.aeth_plan_commands.specs.{Audit.audit_job, Audit.audited, Audit.log_task}
+use Rattle.aeth_plan_commands.specs.{Audit.switched_task, Chain.chain_job, Chain.items_task}
+use Rattle.aeth_plan_commands.specs.{Chain.named_task, Chain.pulled_task, Chain.words_task}
+use Rattle.aeth_plan_commands.specs.{Commands.plan_task, PlannedUses.plan_for, PlannedUses.use_for}
+use Rattle.aeth_plan_commands.specs.{RouteTables.route_tables_job, Tables.tables_job}
+use Rattle.aeth_plan_commands.specs.{declared.command.PlanCommand.PlanCommand}
 use Rattle.aeth_run_commands.specs.TracedDesigns.{TracedData, traced_design, traced_for}
 use Rattle.aeth_tables.specs.Switching.{spans_of}
-use Rattle.aeth_trace.specs.Receivers.{receivers_of}
-use Rattle.aeth_trace.specs.Switches.{switches_of, use_names}
-use Rattle.aeth_trace.specs.Words.{words_of}
-use Rattle.aeth_trace.specs.declared.receivers.PullRow.{PullRow}
-use Rattle.aeth_trace.specs.declared.switches.SwitchRow.{SwitchRow}
-use Rattle.aeth_trace.specs.declared.words.WordRow.{WordRow}
+use Rattle.aeth_trace.specs.{Receivers.receivers_of, Switches.switches_of, Switches.use_names}
+use Rattle.aeth_trace.specs.{Words.words_of, declared.receivers.PullRow.PullRow}
+use Rattle.aeth_trace.specs.{declared.switches.SwitchRow.SwitchRow, declared.words.WordRow.WordRow}
 use Rattle.toml.specs.Data.{Members}
 use Rattle.aeth_command_laws.specs.Versions.{AreDesignVersions, AreFileVersions, ArePlanVersions}
 use Rattle.aeth_command_laws.specs.Versions.{AreRefusalVersions, AreVersions}
 use Rattle.aeth_command_laws.proofs.ToldLemmas.{file_read}
+use Rattle.aeth_design_commands.specs.Check as check
+use Rattle.aeth_design_commands.specs.declared.command.DesignCommand.TheVariants as design
+use Rattle.aeth_explain_commands.specs.declared.command.ExplainCommand.TheVariants as refusals
+use Rattle.aeth_plan_commands.specs.Audit as audit
+use Rattle.aeth_plan_commands.specs.Chain as chain
+use Rattle.aeth_plan_commands.specs.declared.command.PlanCommand.TheVariants as plan
 
 -- The same document with version 2 tells the same chip.
 abbrev pub TellsVersions : Type 0

@@ -3,27 +3,19 @@
 --   ChainFor, IsChainTold      a chain with what it is run with, which their files told
 --   IsChained      a job is the log of a chain, whose words have landed when they are due
 -- This project's own.
-use Rattle.std.specs.Prelude.{ℕ, ◌≡◌, List, Ok, Option, Some, slice_get}
+use Rattle.std.proofs.Common.{ℕ, ◌≡◌, List, Ok, Option, Some, slice_get}
 use Rattle.aeth_answers.specs.Job.{Job}
 use Rattle.aeth_base.specs.declared.ids.UseId.{UseId}
-use Rattle.aeth_chain.specs.Chain.{Leg, legs_of}
-use Rattle.aeth_chain.specs.ChainBounds.{AreDueWordsLanded}
-use Rattle.aeth_chain.specs.declared.item.ChainItem.{ChainItem}
-use Rattle.aeth_chain.specs.ChainItems.{items_of}
-use Rattle.aeth_chain.specs.Shapes.{shapes_in}
-use Rattle.aeth_chain.specs.declared.names.ItemName.{ItemName}
+use Rattle.aeth_chain.specs.{Chain.Leg, Chain.legs_of, ChainBounds.AreDueWordsLanded}
+use Rattle.aeth_chain.specs.{declared.item.ChainItem.ChainItem, ChainItems.items_of}
+use Rattle.aeth_chain.specs.{Shapes.shapes_in, declared.names.ItemName.ItemName}
 use Rattle.aeth_files.specs.Told.{IsTold}
 use Rattle.aeth_group.specs.Members.{groups_of}
-use Rattle.aeth_plan.specs.Plan.{PlanData}
-use Rattle.aeth_plan_commands.specs.Chain.{chain_job}
-use Rattle.aeth_plan_commands.specs.declared.chain.ChainFiles.{ChainFiles}
-use Rattle.aeth_plan.specs.declared.design.Design.{Design}
+use Rattle.aeth_plan.specs.{Plan.PlanData, declared.design.Design.Design}
+use Rattle.aeth_plan_commands.specs.{Chain.chain_job, declared.chain.ChainFiles.ChainFiles}
 use Rattle.aeth_tables.specs.Tables.{tables_of}
-use Rattle.aeth_trace.specs.Receivers.{receivers_of}
-use Rattle.aeth_trace.specs.Switches.{use_names}
-use Rattle.aeth_trace.specs.Words.{words_of}
-use Rattle.aeth_trace.specs.declared.receivers.PullRow.{PullRow}
-use Rattle.aeth_trace.specs.declared.words.WordRow.{WordRow}
+use Rattle.aeth_trace.specs.{Receivers.receivers_of, Switches.use_names, Words.words_of}
+use Rattle.aeth_trace.specs.{declared.receivers.PullRow.PullRow, declared.words.WordRow.WordRow}
 use Rattle.aeth_command_laws.specs.Told.{IsPlanTold}
 
 -- A chain in a use case of an accepted plan, with words and rows of receivers.

@@ -4,16 +4,13 @@
 --   IsExplained      a job prints a certificate for each refusal of the allocation
 --   IsConfirmed      a job tells whether the lists of a text are a certificate for each refusal
 -- This project's own.
-use Rattle.std.specs.Prelude.{ℕ, ◌≡◌, ◌↔◌, List, [], ◌∷◌, Contains, Option, codes, length, map}
-use Rattle.aeth_alloc.specs.Allocation.{allocation}
-use Rattle.aeth_alloc.specs.Prices.{prices_of}
-use Rattle.aeth_alloc.specs.Trials.{refused_of}
-use Rattle.aeth_alloc.specs.declared.outcome.Refused.{Refused}
+use Rattle.std.proofs.Common.{ℕ, ◌≡◌, ◌↔◌, List, [], ◌∷◌, Contains, Option, codes, length, map}
+use Rattle.aeth_alloc.specs.{Allocation.allocation, Prices.prices_of, Trials.refused_of}
+use Rattle.aeth_alloc.specs.{declared.outcome.Refused.Refused}
 use Rattle.aeth_answers.specs.Job.{Job, done}
 use Rattle.aeth_base.specs.declared.ids.LinkId.{LinkId}
-use Rattle.aeth_explain.specs.Certificate.{cuts_of}
-use Rattle.aeth_explain.specs.Cuts.{IsCertificate}
-use Rattle.aeth_explain.specs.CutsText.{cuts_of_text, line_of}
+use Rattle.aeth_explain.specs.{Certificate.cuts_of, Cuts.IsCertificate, CutsText.cuts_of_text}
+use Rattle.aeth_explain.specs.{CutsText.line_of}
 use Rattle.aeth_files.specs.Told.{IsTold}
 use Rattle.aeth_group.specs.Members.{groups_of}
 use Rattle.aeth_paths.specs.Trials.{TrialData}

@@ -4,23 +4,19 @@
 --   LogFor, IsLogTold      a log with what it is judged by, which their files told
 --   IsAudited      a job says that a log is clean, exactly where it is
 -- This project's own.
-use Rattle.std.specs.Prelude.{ℕ, ◌≡◌, ◌↔◌, List, Contains, Option, codes, filter, length, nat_lt}
+use Rattle.std.proofs.Common.{ℕ, ◌≡◌, ◌↔◌, List, Contains, Option, codes, filter, length, nat_lt}
 use Rattle.aeth_accepted.specs.Inputs.{design_on}
 use Rattle.aeth_answers.specs.Job.{Job, done}
-use Rattle.aeth_audit.specs.Breaks.{IsClean}
-use Rattle.aeth_audit.specs.LinkLog.{link_log_of}
-use Rattle.aeth_audit.specs.declared.row.LinkRow.{LinkRow}
+use Rattle.aeth_audit.specs.{Breaks.IsClean, LinkLog.link_log_of, declared.row.LinkRow.LinkRow}
 use Rattle.aeth_files.specs.Told.{IsTold}
 use Rattle.aeth_group.specs.Members.{groups_of}
-use Rattle.aeth_plan.specs.Plan.{PlanData}
+use Rattle.aeth_plan.specs.{Plan.PlanData, declared.design.Design.Design as Given}
 use Rattle.aeth_plan_commands.specs.declared.audit.AuditFiles.{AuditFiles}
-use Rattle.aeth_plan.specs.declared.design.Design.{Design as Given}
 use Rattle.aeth_reconf.specs.Timeline.{timeline_of}
 use Rattle.aeth_report.specs.Design.{Design}
 use Rattle.aeth_tables.specs.Switching.{spans_of}
-use Rattle.aeth_trace.specs.Spans.{SpanData}
-use Rattle.aeth_trace.specs.Switches.{switches_of}
-use Rattle.aeth_trace.specs.declared.switches.SwitchRow.{SwitchRow}
+use Rattle.aeth_trace.specs.{Spans.SpanData, Switches.switches_of}
+use Rattle.aeth_trace.specs.{declared.switches.SwitchRow.SwitchRow}
 use Rattle.aeth_command_laws.specs.Told.{IsPlanTold}
 
 -- No row of a log, of those before a number of cycles, breaks a rule: its link is reserved in its cycle,

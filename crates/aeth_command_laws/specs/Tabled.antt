@@ -4,26 +4,22 @@
 --   printed_lines, printed_line, IsBound      the line of a channel is printed, and a session runs by it
 --   IsBinding, AreTablesTold      a job is the tables of a use case, and they bind each run of the plan
 -- This project's own.
-use Rattle.std.specs.Prelude.{ℕ, ◌≡◌, ◌<◌, IsTrue, List, Contains, Option, Some, length, slice_get}
+use Rattle.std.proofs.Common.{ℕ, ◌≡◌, ◌<◌, IsTrue, List, Contains, Option, Some, length, slice_get}
 use Rattle.aeth_accepted.specs.Inputs.{AreAccepted, IsTabled, run_of}
 use Rattle.aeth_answers.specs.Job.{Job}
 use Rattle.aeth_base.specs.declared.ids.Channel.{Channel}
 use Rattle.aeth_group.specs.Members.{group_at, groups_of, has_at}
 use Rattle.aeth_plan.specs.Plan.{connection_names, name_at}
-use Rattle.aeth_machine.specs.RunInputs.{inputs_of}
-use Rattle.aeth_machine.specs.declared.traces.Traces.{Traces}
+use Rattle.aeth_machine.specs.{RunInputs.inputs_of, declared.traces.Traces.Traces}
 use Rattle.aeth_report.specs.Flows.{Flow, Run, flow_of, sessions_in}
 use Rattle.aeth_report.specs.declared.session.Session.{Session}
 use Rattle.aeth_ni.specs.declared.row.ChannelRow.{ChannelRow}
-use Rattle.aeth_server.specs.Shape.{channel_latency}
-use Rattle.aeth_server.specs.declared.shape.ChannelShape.{ChannelShape}
-use Rattle.aeth_tables.specs.Lines.{queue_line}
-use Rattle.aeth_tables.specs.TableText.{lines_with, promised, promised_of}
-use Rattle.aeth_tables.specs.Tables.{tables_of}
+use Rattle.aeth_server.specs.{Shape.channel_latency, declared.shape.ChannelShape.ChannelShape}
+use Rattle.aeth_tables.specs.{Lines.queue_line, TableText.lines_with, TableText.promised}
+use Rattle.aeth_tables.specs.{TableText.promised_of, Tables.tables_of}
 use Rattle.aeth_trace.specs.Switches.{use_names}
-use Rattle.aeth_plan_commands.specs.PlannedUses.{PlannedUseData}
-use Rattle.aeth_plan_commands.specs.Tables.{tables_job}
-use Rattle.aeth_plan_commands.specs.declared.planned_uses.UseFiles.{UseFiles}
+use Rattle.aeth_plan_commands.specs.{PlannedUses.PlannedUseData, Tables.tables_job}
+use Rattle.aeth_plan_commands.specs.{declared.planned_uses.UseFiles.UseFiles}
 use Rattle.aeth_command_laws.specs.Told.{IsPlanTold}
 
 -- A session of a channel runs by a row, with what is promised beside it: its flits have the row's route and

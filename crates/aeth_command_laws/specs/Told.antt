@@ -6,22 +6,16 @@
 --   IsSimulated      a job is the log of accepted inputs
 --   IsAllocated      a job is the allocation of a chip and an application
 -- This project's own.
-use Rattle.std.specs.Prelude.{ℕ, ◌≡◌, List, Option}
+use Rattle.std.proofs.Common.{ℕ, ◌≡◌, List, Option}
 use Rattle.aeth_accepted.specs.Inputs.{AreAccepted, Inputs}
-use Rattle.aeth_app.specs.App.{IsApp, IsAppOf}
-use Rattle.aeth_app.specs.AppFile.{app_of}
-use Rattle.aeth_chip.specs.Chip.{IsChip}
-use Rattle.aeth_chip.specs.ChipFile.{chip_of}
+use Rattle.aeth_app.specs.{App.IsApp, App.IsAppOf, AppFile.app_of}
+use Rattle.aeth_chip.specs.{Chip.IsChip, ChipFile.chip_of}
 use Rattle.aeth_group.specs.Members.{groups_of}
-use Rattle.aeth_plan.specs.Plan.{PlanData}
-use Rattle.aeth_plan.specs.PlanText.{plan_of}
-use Rattle.aeth_plan.specs.Design.{IsDesign}
-use Rattle.aeth_plan.specs.declared.design.Design.{Design}
+use Rattle.aeth_plan.specs.{Plan.PlanData, PlanText.plan_of, Design.IsDesign}
+use Rattle.aeth_plan.specs.{declared.design.Design.Design}
 use Rattle.aeth_report.specs.Log.{LogData}
 use Rattle.aeth_tables.specs.Switching.{spans_of}
-use Rattle.aeth_trace.specs.Receivers.{receivers_of}
-use Rattle.aeth_trace.specs.Switches.{switches_of}
-use Rattle.aeth_trace.specs.Words.{words_of}
+use Rattle.aeth_trace.specs.{Receivers.receivers_of, Switches.switches_of, Words.words_of}
 use Rattle.aeth_answers.specs.Job.{Job}
 use Rattle.aeth_run_files.specs.declared.runs.RunFiles.{RunFiles}
 use Rattle.aeth_files.specs.Told.{IsTold}

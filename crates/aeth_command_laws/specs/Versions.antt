@@ -4,21 +4,19 @@
 --   AreDesignVersions, AreRefusalVersions, ArePlanVersions      and a command reads them as its chip
 --   AreFileVersions      the same of the files of a run
 -- This project's own.
-use Rattle.std.specs.Prelude.{ℕ, ◌≡◌, ◌≢◌, ◌≤◌, ⊤, List, Ok, Option, Some, length, pos}
-use Rattle.aeth_chip.specs.Chip.{ChipData}
-use Rattle.aeth_chip.specs.ChipFile.{chip_of}
-use Rattle.aeth_chip.specs.Told.{version_of}
-use Rattle.aeth_chip.specs.Versions.{in_version_2}
+use Rattle.std.proofs.Common.{ℕ, ◌≡◌, ◌≢◌, ◌≤◌, List, Ok, Option, Some, length, pos}
+use Rattle.std.specs.Prelude.{⊤}
+use Rattle.aeth_chip.specs.{Chip.ChipData, ChipFile.chip_of, Told.version_of, Versions.in_version_2}
 use Rattle.aeth_document.specs.Document.{document_of}
 use Rattle.aeth_design_commands.specs.declared.command.DesignCommand.{DesignCommand}
-use Rattle.aeth_design_commands.specs.declared.command.DesignCommand.TheVariants as design
 use Rattle.aeth_explain_commands.specs.declared.command.ExplainCommand.{ExplainCommand}
-use Rattle.aeth_explain_commands.specs.declared.command.ExplainCommand.TheVariants as refusals
 use Rattle.aeth_run_files.specs.declared.runs.RunFiles.{RunFiles}
 use Rattle.aeth_io.specs.Limits.{max_file_bytes}
 use Rattle.aeth_plan_commands.specs.declared.command.PlanCommand.{PlanCommand}
-use Rattle.aeth_plan_commands.specs.declared.command.PlanCommand.TheVariants as plan
 use Rattle.toml.specs.Data.{Members}
+use Rattle.aeth_design_commands.specs.declared.command.DesignCommand.TheVariants as design
+use Rattle.aeth_explain_commands.specs.declared.command.ExplainCommand.TheVariants as refusals
+use Rattle.aeth_plan_commands.specs.declared.command.PlanCommand.TheVariants as plan
 
 module _ (old new : List ℕ → Option (List ℕ)) where
   -- The file of a name tells a chip by a document of version 1 on the one shelf, and on the other it has

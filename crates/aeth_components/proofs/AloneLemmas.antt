@@ -1,18 +1,16 @@
 -- Where no two open lanes share a queue, what each does in its turn it does alone.
-use Rattle.std.proofs.Common.{ℕ, zero, suc, ◌≡◌, ◌≢◌, ◌<◌, refl, sym, ◌∙◌, ap, subst}
-use Rattle.std.proofs.Common.{arith, inl, inr, map, length}
-use Rattle.std.proofs.Common.{List, [], ◌∷◌, Option, Some, slice_get}
+use Rattle.std.proofs.Common.{ℕ, zero, suc, ◌≡◌, ◌≢◌, ◌<◌, refl, sym, ◌∙◌, ap, subst, arith, inl}
+use Rattle.std.proofs.Common.{inr, map, length, List, [], ◌∷◌, Option, Some, slice_get}
+use Rattle.std.proofs.Common.{get_or-set_other}
+use Rattle.std.proofs.lemmas.{Bool.cases_eq, Option.same_Some}
 use Rattle.std.specs.Option.{option_map_or}
-use Rattle.std.proofs.lemmas.Bool.{cases_eq}
-use Rattle.std.proofs.lemmas.List.{get_or-set_other}
-use Rattle.std.proofs.lemmas.Option.{same_Some}
 use Rattle.aeth_router.specs.declared.part.Part.{Part}
 use Rattle.aeth_router.specs.declared.part.Part.TheVariants.{Interface, Router, Stage, TableRouter}
 use Rattle.aeth_components.specs.declared.lane.ChannelEnd.{ChannelEnd}
-use Rattle.aeth_components.proofs.QueueLemmas.{queue_at-changed}
 use Rattle.aeth_components.specs.Changes.{at_end, on_interface, told_at, told_by, with_part}
 use Rattle.aeth_components.specs.Frames.{Frame, InterfaceFrame, frame_of}
 use Rattle.aeth_components.specs.View.{HasQueue, queue_in, queue_of}
+use Rattle.aeth_components.proofs.QueueLemmas.{queue_at-changed}
 use Rattle.aeth_ni.specs.Interface.{InterfaceState, changed, queue_at}
 use Rattle.aeth_ni.specs.Queue.{QueueState, empty_queue}
 

@@ -1,18 +1,15 @@
 -- Laws of what is counted of the channels that receive at some interfaces.
-use Rattle.std.proofs.Common.{ℕ, zero, suc, ◌≡◌, ◌≢◌, ◌<◌, ◌==◌, ◌∙◌, refl, sym, ap, subst}
-use Rattle.std.proofs.Common.{arith, inl, inr, Bool, true, List, [], ◌∷◌, fold, length, map}
-use Rattle.std.proofs.Common.{Option, Some, None, slice_get}
-use Rattle.std.specs.List.{All}
-use Rattle.std.specs.Option.{option_map_or}
-use Rattle.std.proofs.lemmas.Bool.{cases_Bool, cases_lt, eqb-true}
+use Rattle.std.proofs.Common.{ℕ, zero, suc, ◌≡◌, ◌≢◌, ◌<◌, ◌==◌, ◌∙◌, refl, sym, ap, subst, arith}
+use Rattle.std.proofs.Common.{inl, inr, Bool, true, List, [], ◌∷◌, fold, length, map, Option, Some}
+use Rattle.std.proofs.Common.{None, slice_get, eqb-true}
+use Rattle.std.proofs.lemmas.Bool.{cases_Bool, cases_lt}
 use Rattle.std.proofs.lemmas.Option.{get_or_from_slice_get, slice_get_within}
+use Rattle.std.specs.{List.All, Option.option_map_or}
 use Rattle.aeth_router.specs.declared.part.Part.{Part}
-use Rattle.aeth_components.specs.declared.lane.Lane.{Lane}
-use Rattle.aeth_components.specs.Channels.{OfLane}
-use Rattle.aeth_components.specs.Counting.{brings, brought_at, counted, counted_among, noted}
-use Rattle.aeth_components.specs.Counting.{noted_among}
-use Rattle.aeth_components.specs.Lanes.{IsLane, with_lane}
-use Rattle.aeth_components.specs.Queues.{brought_by}
+use Rattle.aeth_components.specs.{declared.lane.Lane.Lane, Channels.OfLane, Counting.brings}
+use Rattle.aeth_components.specs.{Counting.brought_at, Counting.counted, Counting.counted_among}
+use Rattle.aeth_components.specs.{Counting.noted, Counting.noted_among, Lanes.IsLane}
+use Rattle.aeth_components.specs.{Lanes.with_lane, Queues.brought_by}
 use Rattle.aeth_components.proofs.CountingLemmas.{IsLane-counted, brings-none, brings-silent}
 use Rattle.aeth_components.proofs.CountingLemmas.{counted-still, noted-still}
 use Rattle.aeth_components.proofs.HomeLemmas.{StaysAtHome, StaysAtHome-counted}

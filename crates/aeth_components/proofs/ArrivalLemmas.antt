@@ -1,7 +1,6 @@
 -- Laws of who sent what has come to a wire, where what senders send changes.
-use Rattle.std.proofs.Common.{ℕ, ◌≡◌, ◌≢◌, ◌<◌, ◌∙◌, refl, sym, ap, inl, inr}
-use Rattle.std.proofs.Common.{Option, Some, None, is_some}
-use Rattle.std.specs.Prelude.{IsSome}
+use Rattle.std.proofs.Common.{ℕ, ◌≡◌, ◌≢◌, ◌<◌, ◌∙◌, refl, sym, ap, inl, inr, Option, Some, None}
+use Rattle.std.proofs.Common.{is_some, IsSome}
 use Rattle.std.proofs.lemmas.Bool.{cases_eq}
 use Rattle.aeth_clocked.specs.declared.flit.Flit.{Flit}
 use Rattle.aeth_router.specs.Onward.{Arrival, CameFrom, Nothing, One, Several, arrived}

@@ -1,6 +1,5 @@
 -- What a wire carries to which flits came from senders of which one, or none, sends.
-use Rattle.std.proofs.Common.{ℕ, ◌≡◌, ◌<◌, refl, sym, ◌∙◌, subst, Option, None}
-use Rattle.std.specs.Prelude.{IsSome}
+use Rattle.std.proofs.Common.{ℕ, ◌≡◌, ◌<◌, refl, sym, ◌∙◌, subst, Option, None, IsSome}
 use Rattle.aeth_clocked.specs.declared.flit.Flit.{Flit}
 use Rattle.aeth_router.specs.Onward.{Arrival, CameFrom, Nothing, One, Several, carried}
 use Rattle.aeth_router.specs.Passing.{IsSole}

@@ -1,20 +1,17 @@
 -- To which interfaces flits of wires have come, and what has landed there.
-use Rattle.std.proofs.Common.{ℕ, ◌≡◌, refl, sym, ap, ◌∙◌, subst, inl, inr, Bool, true, false, is_some}
-use Rattle.std.proofs.Common.{List, [], ◌∷◌, fold, map, Option, Some, None, slice_get}
+use Rattle.std.proofs.Common.{ℕ, ◌≡◌, refl, sym, ap, ◌∙◌, subst, inl, inr, Bool, true, false}
+use Rattle.std.proofs.Common.{is_some, List, [], ◌∷◌, fold, map, Option, Some, None, slice_get}
+use Rattle.std.proofs.lemmas.{Bool.cases_Bool, Option.same_Some, Option.slice_get-map}
 use Rattle.std.specs.Option.{option_map, option_map_or}
-use Rattle.std.proofs.lemmas.Bool.{cases_Bool}
-use Rattle.std.proofs.lemmas.Option.{same_Some, slice_get-map}
-use Rattle.aeth_clocked.specs.Wires.{flit_on}
-use Rattle.aeth_clocked.specs.declared.flit.Flit.{Flit}
+use Rattle.aeth_clocked.specs.{Wires.flit_on, declared.flit.Flit.Flit}
 use Rattle.aeth_ni.specs.Component.{arrival_of, interface_absorb, last_of}
 use Rattle.aeth_ni.specs.Interface.{InterfaceState}
 use Rattle.aeth_router.specs.declared.part.Part.{Part}
 use Rattle.aeth_router.specs.declared.part.Part.TheVariants.{Interface, Router, Stage, TableRouter}
-use Rattle.aeth_components.specs.Changes.{on_interface}
-use Rattle.aeth_components.specs.Counting.{brings, counted, counted_among, noted, noted_among}
-use Rattle.aeth_components.specs.Queues.{brought_by, words_for}
-use Rattle.aeth_components.specs.Seen.{flits_landed, interfaces_latched, landed}
-use Rattle.aeth_components.specs.declared.lane.Lane.{Lane}
+use Rattle.aeth_components.specs.{Changes.on_interface, Counting.brings, Counting.counted}
+use Rattle.aeth_components.specs.{Counting.counted_among, Counting.noted, Counting.noted_among}
+use Rattle.aeth_components.specs.{Queues.brought_by, Queues.words_for, Seen.flits_landed}
+use Rattle.aeth_components.specs.{Seen.interfaces_latched, Seen.landed, declared.lane.Lane.Lane}
 use Rattle.aeth_components.proofs.AmongLemmas.{brings-found, counts-still, notes-still}
 use Rattle.aeth_components.proofs.FrameLemmas.{none-unless}
 use Rattle.aeth_components.proofs.MapLemmas.{map-agree}

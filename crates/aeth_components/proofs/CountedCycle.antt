@@ -1,9 +1,8 @@
 -- A run of components that are seen with what the wires had, and what is counted behind it, are a cycle.
 use Rattle.std.proofs.Common.{ℕ, ◌≡◌, ◌∙◌, List, Option, fold, length, map, sym}
-use Rattle.std.specs.List.{All}
 use Rattle.std.proofs.lemmas.List.{length-map}
-use Rattle.aeth_clocked.specs.Wires.{flit_on}
-use Rattle.aeth_clocked.specs.declared.flit.Flit.{Flit}
+use Rattle.std.specs.List.{All}
+use Rattle.aeth_clocked.specs.{Wires.flit_on, declared.flit.Flit.Flit}
 use Rattle.aeth_router.specs.declared.part.Part.{Part}
 use Rattle.aeth_components.proofs.CycleLemmas.{Cycle-from, IsComponents-framed, IsComponents-from}
 use Rattle.aeth_components.proofs.SeenCycle.{counted-landed, noted-landed}
@@ -13,10 +12,8 @@ use Rattle.aeth_components.specs.Components.{components_of}
 use Rattle.aeth_components.specs.Changes.{on_interface}
 use Rattle.aeth_components.specs.Counting.{counted, flits_counted, noted}
 use Rattle.aeth_components.specs.Lanes.{IsLane}
-use Rattle.aeth_components.specs.Seen.{all_seen, flits_landed, interfaces_latched, landed}
-use Rattle.aeth_components.specs.Seen.{seen}
-use Rattle.aeth_components.specs.declared.event.Event.{Event}
-use Rattle.aeth_components.specs.declared.lane.Lane.{Lane}
+use Rattle.aeth_components.specs.Seen.{all_seen, flits_landed, interfaces_latched, landed, seen}
+use Rattle.aeth_components.specs.declared.{event.Event.Event, lane.Lane.Lane}
 
 -- The components as they stand are `old`, and `parts` where flits land.
 module _ {events : List Event} {cycle : ℕ} (old : ComponentsState) {wires : List (Option Flit)}

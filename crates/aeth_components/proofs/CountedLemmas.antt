@@ -1,20 +1,18 @@
 -- Laws of the walk in which channels at some interfaces are counted that may not be idle.
 use Rattle.std.proofs.Common.{ℕ, zero, suc, ◌≡◌, ◌<◌, ◌≤◌, ◌+◌, ◌-◌, ◌∙◌, refl, sym, ap, subst}
-use Rattle.std.proofs.Common.{arith, List, [], ◌∷◌, ◌++◌, drop, fold, get_or, length, map, set, take}
-use Rattle.std.proofs.Common.{Bool, false, true}
+use Rattle.std.proofs.Common.{arith, List, [], ◌∷◌, ◌++◌, drop, fold, get_or, length, map, set}
+use Rattle.std.proofs.Common.{take, Bool, false, true, append-nil, take_all}
+use Rattle.std.proofs.lemmas.{List.drop_all, Option.get_or_from_slice_get}
 use Rattle.std.specs.List.{All}
-use Rattle.std.proofs.lemmas.List.{append-nil, drop_all, take_all}
-use Rattle.std.proofs.lemmas.Option.{get_or_from_slice_get}
 use Rattle.aeth_router.specs.declared.part.Part.{Part}
-use Rattle.aeth_components.specs.declared.lane.Lane.{Lane}
+use Rattle.aeth_components.specs.{declared.lane.Lane.Lane, Busy.IsIdle, Channels.AreStill}
+use Rattle.aeth_components.specs.{Channels.OfLane, Counting.counted, Counting.counted_among}
+use Rattle.aeth_components.specs.{Counting.noted, Counting.noted_among, Lanes.IsLane}
+use Rattle.aeth_components.specs.{Lanes.with_lane}
 use Rattle.aeth_components.proofs.AmongLemmas.{stays}
 use Rattle.aeth_components.proofs.CountingLemmas.{IsLane-ahead, brings-none, map-more, noted-more}
 use Rattle.aeth_components.proofs.LaneLemmas.{lane-within, length-with_lane, set-with_lane}
 use Rattle.aeth_components.proofs.SkipLemmas.{set-there}
-use Rattle.aeth_components.specs.Busy.{IsIdle}
-use Rattle.aeth_components.specs.Channels.{AreStill, OfLane}
-use Rattle.aeth_components.specs.Counting.{counted, counted_among, noted, noted_among}
-use Rattle.aeth_components.specs.Lanes.{IsLane, with_lane}
 
 -- Two changes that agree on a channel change it alike.
 with_lane-same : (lanes : List Lane) (number : ℕ) (change other : Lane → Lane)

@@ -1,23 +1,18 @@
 -- Laws of what is counted behind a cycle.
 use Rattle.std.proofs.Common.{ℕ, zero, suc, ◌≡◌, ◌<◌, ◌≤◌, ◌+◌, ◌-◌, refl, sym, ◌∙◌, ap, arith}
-use Rattle.std.proofs.Common.{subst}
-use Rattle.std.proofs.Common.{List, [], ◌∷◌, ◌++◌, length, map, fold, take, drop, get_or, set}
-use Rattle.std.specs.Option.{option_map_or}
-use Rattle.std.proofs.Common.{Option, Some, None, is_some, slice_get, inl, inr, true, false}
-use Rattle.std.proofs.Common.{length-set}
+use Rattle.std.proofs.Common.{subst, List, [], ◌∷◌, ◌++◌, length, map, fold, take, drop, get_or}
+use Rattle.std.proofs.Common.{set, Option, Some, None, is_some, slice_get, inl, inr, true, false}
+use Rattle.std.proofs.Common.{length-set, take_all}
 use Rattle.std.proofs.lemmas.Bool.{cases_Bool, cases_lt}
-use Rattle.std.proofs.lemmas.List.Sums.{fold_push}
-use Rattle.std.proofs.lemmas.List.{set-get_or, take_more}
+use Rattle.std.proofs.lemmas.List.{Sums.fold_push, set-get_or, take_more}
 use Rattle.std.proofs.lemmas.Option.{same_Some, slice_get-get_or, unwrap_or-slice_get}
-use Rattle.aeth_clocked.specs.Wires.{flit_on}
-use Rattle.aeth_clocked.specs.declared.flit.Flit.{Flit}
+use Rattle.std.specs.Option.{option_map_or}
+use Rattle.aeth_clocked.specs.{Wires.flit_on, declared.flit.Flit.Flit}
 use Rattle.aeth_router.specs.declared.part.Part.{Part}
-use Rattle.aeth_components.specs.declared.lane.Lane.{Lane}
-use Rattle.std.proofs.lemmas.List.{take_all}
-use Rattle.aeth_components.specs.Counting.{brings, brought_at, counted, flits_counted, noted}
-use Rattle.aeth_components.specs.Counting.{with_flit, written_over}
-use Rattle.aeth_components.specs.Lanes.{IsLane, is_open}
-use Rattle.aeth_components.specs.Queues.{brought_by}
+use Rattle.aeth_components.specs.{declared.lane.Lane.Lane, Counting.brings, Counting.brought_at}
+use Rattle.aeth_components.specs.{Counting.counted, Counting.flits_counted, Counting.noted}
+use Rattle.aeth_components.specs.{Counting.with_flit, Counting.written_over, Lanes.IsLane}
+use Rattle.aeth_components.specs.{Lanes.is_open, Queues.brought_by}
 use Rattle.aeth_ni.specs.Queue.{capped}
 
 -- One more item is mapped in its place.

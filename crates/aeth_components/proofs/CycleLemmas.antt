@@ -1,27 +1,20 @@
 -- What holds of components and channels in each phase of a cycle.
-use Rattle.std.proofs.Common.{ℕ, ◌≡◌, refl, sym, ◌∙◌, ap, length, map, List, Option}
-use Rattle.std.proofs.Common.{arith, fold}
-use Rattle.std.proofs.Common.{zero, suc, [], ◌∷◌, Some, slice_get}
-use Rattle.std.specs.Prelude.{slice_set}
-use Rattle.std.proofs.lemmas.Option.{same_Some}
+use Rattle.std.proofs.Common.{ℕ, ◌≡◌, refl, sym, ◌∙◌, ap, length, map, List, Option, arith, fold}
+use Rattle.std.proofs.Common.{zero, suc, [], ◌∷◌, Some, slice_get, slice_set}
+use Rattle.std.proofs.lemmas.{Option.same_Some, List.Elements.All-map, List.length-map}
 use Rattle.std.specs.List.{All}
-use Rattle.std.proofs.lemmas.List.Elements.{All-map}
-use Rattle.std.proofs.lemmas.List.{length-map}
 use Rattle.aeth_clocked.specs.declared.flit.Flit.{Flit}
 use Rattle.aeth_router.specs.declared.part.Part.{Part}
-use Rattle.aeth_components.specs.declared.event.Event.{Event}
-use Rattle.aeth_components.specs.declared.lane.Lane.{Lane}
-use Rattle.aeth_components.proofs.CountingLemmas.{IsLane-counted, length-flits_counted}
-use Rattle.aeth_components.proofs.CountingLemmas.{length-notes}
-use Rattle.aeth_components.proofs.FrameLemmas.{length-wires_driven}
-use Rattle.aeth_components.proofs.PartLemmas.{frames-switched}
-use Rattle.aeth_components.specs.Changes.{switched}
-use Rattle.aeth_components.specs.Components.{ComponentsState, Cycle, IsComponents, Runs}
-use Rattle.aeth_components.specs.Components.{components_of, frames_of, moment_of, ready_of}
-use Rattle.aeth_components.specs.Counting.{counted, flits_counted, noted}
-use Rattle.aeth_components.specs.Frames.{frame_of}
-use Rattle.aeth_components.specs.Lanes.{IsLane}
-use Rattle.aeth_components.specs.Phases.{Moment}
+use Rattle.aeth_components.specs.{declared.event.Event.Event, declared.lane.Lane.Lane}
+use Rattle.aeth_components.specs.{Changes.switched, Components.ComponentsState, Components.Cycle}
+use Rattle.aeth_components.specs.{Components.IsComponents, Components.Runs}
+use Rattle.aeth_components.specs.{Components.components_of, Components.frames_of}
+use Rattle.aeth_components.specs.{Components.moment_of, Components.ready_of, Counting.counted}
+use Rattle.aeth_components.specs.{Counting.flits_counted, Counting.noted, Frames.frame_of}
+use Rattle.aeth_components.specs.{Lanes.IsLane, Phases.Moment}
+use Rattle.aeth_components.proofs.{CountingLemmas.IsLane-counted}
+use Rattle.aeth_components.proofs.{CountingLemmas.length-flits_counted, CountingLemmas.length-notes}
+use Rattle.aeth_components.proofs.{FrameLemmas.length-wires_driven, PartLemmas.frames-switched}
 
 -- A run and what is counted behind it are a cycle.
 module _ (events : List Event) (cycle : ℕ) (old : ComponentsState) (wires : List (Option Flit))

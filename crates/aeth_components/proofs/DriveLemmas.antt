@@ -1,17 +1,14 @@
 -- What is on the wires once all components have driven.
-use Rattle.std.proofs.Common.{ℕ, ◌≡◌, ◌<◌, refl, sym, ◌∙◌, ap, arith, inl, inr, subst}
-use Rattle.std.proofs.Common.{[], ◌∷◌, ◌+◌, ap₂, cond, count_by}
-use Rattle.std.proofs.Common.{Bool, List, Option, Some, None, length, map, slice_get, true}
+use Rattle.std.proofs.Common.{ℕ, ◌≡◌, ◌<◌, refl, sym, ◌∙◌, ap, arith, inl, inr, subst, [], ◌∷◌, ◌+◌}
+use Rattle.std.proofs.Common.{ap₂, cond, count_by, Bool, List, Option, Some, None, length, map}
+use Rattle.std.proofs.Common.{slice_get, true}
 use Rattle.std.proofs.lemmas.Bool.{cases_Bool, cases_lt}
-use Rattle.std.proofs.lemmas.List.{length-map}
-use Rattle.std.proofs.lemmas.List.Sums.{sum_by-cons}
+use Rattle.std.proofs.lemmas.List.{length-map, Sums.sum_by-cons}
 use Rattle.std.proofs.lemmas.Option.{slice_get-get_or, unwrap_or-slice_get}
 use Rattle.aeth_base.proofs.Lists.{map-at}
-use Rattle.aeth_clocked.specs.Driven.{driven, is_output}
-use Rattle.aeth_clocked.specs.Wires.{flit_on}
-use Rattle.aeth_clocked.specs.declared.flit.Flit.{Flit}
-use Rattle.aeth_clocked.proofs.DrivenLemmas.{driven-at}
-use Rattle.aeth_clocked.proofs.WiresLemmas.{Drives-whole}
+use Rattle.aeth_clocked.specs.{Driven.driven, Driven.is_output, Wires.flit_on}
+use Rattle.aeth_clocked.specs.{declared.flit.Flit.Flit}
+use Rattle.aeth_clocked.proofs.{DrivenLemmas.driven-at, WiresLemmas.Drives-whole}
 use Rattle.aeth_router.proofs.OnwardLemmas.{flit_on-carried}
 use Rattle.aeth_router.specs.Onward.{Arrival, CameFrom, arrival_at, carried}
 use Rattle.aeth_router.specs.Part.{emit_of, outputs_of}
@@ -23,14 +20,10 @@ use Rattle.aeth_components.proofs.OwnLemmas.{emits-mute, mute-other, output-belo
 use Rattle.aeth_components.proofs.PassedLemmas.{passed-emits, passed-none}
 use Rattle.aeth_components.proofs.SeenLemmas.{frames-seen, outputs_of-seen}
 use Rattle.aeth_components.proofs.SeenCycle.{sends_own-seen}
-use Rattle.aeth_components.specs.Components.{wires_driven}
-use Rattle.aeth_components.specs.Ends.{AreEnds, is_interface}
-use Rattle.aeth_components.specs.Frames.{Frame, IsWired, frame_of, sends_by}
-use Rattle.aeth_components.specs.Passing.{passed_from}
-use Rattle.aeth_components.specs.Seen.{all_seen, seen}
-use Rattle.aeth_components.specs.Sending.{Injects}
-use Rattle.aeth_components.specs.Turns.{sends_own}
-use Rattle.aeth_components.specs.declared.ends.Ends.{Ends}
+use Rattle.aeth_components.specs.{Components.wires_driven, Ends.AreEnds, Ends.is_interface}
+use Rattle.aeth_components.specs.{Frames.Frame, Frames.IsWired, Frames.frame_of, Frames.sends_by}
+use Rattle.aeth_components.specs.{Passing.passed_from, Seen.all_seen, Seen.seen, Sending.Injects}
+use Rattle.aeth_components.specs.{Turns.sends_own, declared.ends.Ends.Ends}
 
 -- What an interface emits doesn't depend on what came to it last.
 emits-seen : (wires : List (Option Flit)) (cycle wire : ℕ) (part : Part)

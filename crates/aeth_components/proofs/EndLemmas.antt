@@ -1,19 +1,15 @@
 -- The components at the ends of a chip's wires are those that send and receive there.
-use Rattle.std.proofs.Common.{ℕ, ◌≡◌, ◌≢◌, ◌<◌, ◌+◌, ◌-◌, refl, sym, ◌∙◌, ap, arith, subst}
-use Rattle.std.proofs.Common.{List, length, map, Some, slice_get, true, inl, inr, eqb-true}
-use Rattle.std.proofs.lemmas.Bool.{eq-eqb, ne_eqb}
-use Rattle.std.specs.Prelude.{slice_index}
-use Rattle.std.specs.List.{All}
+use Rattle.std.proofs.Common.{ℕ, ◌≡◌, ◌≢◌, ◌<◌, ◌+◌, ◌-◌, refl, sym, ◌∙◌, ap, arith, subst, List}
+use Rattle.std.proofs.Common.{length, map, Some, slice_get, true, inl, inr, eqb-true, eq-eqb}
+use Rattle.std.proofs.Common.{ne_eqb, slice_index}
 use Rattle.std.proofs.lemmas.List.{length-map}
-use Rattle.aeth_chip.specs.Chip.{ChipData, IsChip}
-use Rattle.aeth_chip.specs.Nodes.{ends_at, receives_on}
-use Rattle.aeth_chip.specs.Wires.{wire_at}
-use Rattle.aeth_chip.specs.declared.node.Link.{Link}
-use Rattle.aeth_chip.specs.declared.node.Node.{Node}
-use Rattle.aeth_chip.specs.declared.node.Node.TheVariants.{Ni, Router}
+use Rattle.std.specs.List.{All}
+use Rattle.aeth_chip.specs.{Chip.ChipData, Chip.IsChip, Nodes.ends_at, Nodes.receives_on}
+use Rattle.aeth_chip.specs.{Wires.wire_at, declared.node.Link.Link, declared.node.Node.Node}
+use Rattle.aeth_chip.specs.{declared.node.Node.TheVariants.Ni}
+use Rattle.aeth_chip.specs.{declared.node.Node.TheVariants.Router}
 use Rattle.aeth_chip.proofs.WireLemmas.{have_delays, wire_at-behind}
-use Rattle.aeth_router.specs.Router.{is_among, last_wire}
-use Rattle.aeth_router.specs.declared.part.Part.{Part}
+use Rattle.aeth_router.specs.{Router.is_among, Router.last_wire, declared.part.Part.Part}
 use Rattle.aeth_router.proofs.LinkLemmas.{is_among-at, passes-from_is_among}
 use Rattle.aeth_router.proofs.WireLemmas.{map-is_among}
 use Rattle.aeth_components.specs.Components.{part_count}
@@ -23,8 +19,8 @@ use Rattle.aeth_components.specs.Frames.{Frame, frame_of, receives_by, sends_by}
 use Rattle.aeth_components.specs.Making.{made_interface, made_router, made_stage, new_parts}
 use Rattle.aeth_components.specs.declared.making.RouterKind.TheVariants.{ByHeader}
 use Rattle.aeth_components.proofs.MadeParts.{StageAt, same_node-place}
-use Rattle.aeth_components.proofs.MadeLemmas.{Made, IsInterface, IsRouter, IsStage}
-use Rattle.aeth_components.proofs.MadeLemmas.{frame-sends, length-new_parts, made-at}
+use Rattle.aeth_components.proofs.MadeLemmas.{Made, IsInterface, IsRouter, IsStage, frame-sends}
+use Rattle.aeth_components.proofs.MadeLemmas.{length-new_parts, made-at}
 
 -- A wire of a link, and the component that receives on it.
 pub record ReceivesAt (chip : ChipData) (i wire : ℕ) : Type 0 where

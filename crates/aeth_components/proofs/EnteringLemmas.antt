@@ -5,14 +5,11 @@ use Rattle.aeth_router.specs.declared.part.Part.{Part}
 use Rattle.aeth_router.specs.declared.part.Part.TheVariants.{Interface, Router, Stage, TableRouter}
 use Rattle.aeth_router.specs.declared.router_row.RouterRow.{RouterRow}
 use Rattle.aeth_router.proofs.RowLemmas.{with_table-kept}
-use Rattle.aeth_components.specs.Components.{ComponentsState, IsComponents}
-use Rattle.aeth_components.specs.Entering.{entered, with_rows}
-use Rattle.aeth_components.specs.Frames.{RouterFrame, frame_of}
-use Rattle.aeth_components.specs.Injecting.{entries_of}
-use Rattle.aeth_components.specs.Passing.{way_of}
-use Rattle.aeth_components.specs.View.{queue_in, queue_of}
-use Rattle.aeth_components.proofs.CycleLemmas.{IsComponents-framed}
-use Rattle.aeth_components.proofs.FrameLemmas.{views-map}
+use Rattle.aeth_components.specs.{Components.ComponentsState, Components.IsComponents}
+use Rattle.aeth_components.specs.{Entering.entered, Entering.with_rows, Frames.RouterFrame}
+use Rattle.aeth_components.specs.{Frames.frame_of, Injecting.entries_of, Passing.way_of}
+use Rattle.aeth_components.specs.{View.queue_in, View.queue_of}
+use Rattle.aeth_components.proofs.{CycleLemmas.IsComponents-framed, FrameLemmas.views-map}
 
 -- Rows change no wire of a router.
 frame-entered : (rows : List RouterRow) (part : Part) → frame_of (entered rows part) ≡ frame_of part

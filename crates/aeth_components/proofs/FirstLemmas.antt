@@ -1,37 +1,27 @@
 -- Before the first cycle: the ends of a chip's wires, and that no wire has a flit.
-use Rattle.std.proofs.Common.{ℕ, ◌≡◌, ◌<◌, ◌≤◌, ◌*◌, ◌∙◌, refl, sym, ap, arith, subst, cond, is_some}
-use Rattle.std.proofs.Common.{List, get_or, length, map, None, Option, replicate, slice_get, Some}
-use Rattle.std.proofs.Common.{true, false}
-use Rattle.std.specs.List.{All}
-use Rattle.std.specs.Option.{option_and_then, option_map}
-use Rattle.std.proofs.lemmas.List.{length-map, length-replicate}
-use Rattle.std.proofs.lemmas.List.Elements.{All-map}
-use Rattle.std.proofs.lemmas.List.Folds.{sum_by-replicate}
+use Rattle.std.proofs.Common.{ℕ, ◌≡◌, ◌<◌, ◌≤◌, ◌*◌, ◌∙◌, refl, sym, ap, arith, subst, cond}
+use Rattle.std.proofs.Common.{is_some, List, get_or, length, map, None, Option, replicate}
+use Rattle.std.proofs.Common.{slice_get, Some, true, false}
+use Rattle.std.proofs.lemmas.List.{length-map, length-replicate, Elements.All-map}
+use Rattle.std.proofs.lemmas.List.{Folds.sum_by-replicate}
 use Rattle.std.proofs.lemmas.Option.{slice_get-get_or, slice_get-map}
-use Rattle.aeth_chip.specs.Chip.{ChipData, IsChip}
-use Rattle.aeth_chip.specs.Wires.{wires_of}
+use Rattle.std.specs.{List.All, Option.option_and_then, Option.option_map}
+use Rattle.aeth_chip.specs.{Chip.ChipData, Chip.IsChip, Wires.wires_of}
 use Rattle.aeth_clocked.proofs.ClearLemmas.{flit_on-replicate}
-use Rattle.aeth_clocked.specs.Wires.{flit_on}
-use Rattle.aeth_clocked.specs.declared.flit.Flit.{Flit}
+use Rattle.aeth_clocked.specs.{Wires.flit_on, declared.flit.Flit.Flit}
 use Rattle.aeth_router.proofs.OnwardLemmas.{arrival_at-none}
-use Rattle.aeth_router.specs.Onward.{Nothing}
-use Rattle.aeth_router.specs.Passing.{forwarded, has_table}
-use Rattle.aeth_router.specs.declared.part.Part.{Part}
-use Rattle.aeth_components.specs.Components.{part_count}
-use Rattle.aeth_components.specs.Ends.{AreEnds, AreEndsOf, is_interface}
-use Rattle.aeth_components.specs.Frames.{frame_of}
-use Rattle.aeth_components.specs.Making.{new_parts}
-use Rattle.aeth_components.specs.Passing.{way_of}
-use Rattle.aeth_components.specs.Ready.{AreReady}
-use Rattle.aeth_components.specs.Turns.{flits_on}
-use Rattle.aeth_components.specs.declared.ends.Ends.{Ends}
-use Rattle.aeth_components.specs.declared.making.RouterKind.{RouterKind}
-use Rattle.aeth_components.specs.declared.making.RouterKind.TheVariants.{ByHeader}
-use Rattle.aeth_components.specs.declared.turns.Turns.{Turns}
+use Rattle.aeth_router.specs.{Onward.Nothing, Passing.forwarded, Passing.has_table}
+use Rattle.aeth_router.specs.{declared.part.Part.Part}
+use Rattle.aeth_components.specs.{Components.part_count, Ends.AreEnds, Ends.AreEndsOf}
+use Rattle.aeth_components.specs.{Ends.is_interface, Frames.frame_of, Making.new_parts}
+use Rattle.aeth_components.specs.{Passing.way_of, Ready.AreReady, Turns.flits_on}
+use Rattle.aeth_components.specs.{declared.ends.Ends.Ends, declared.making.RouterKind.RouterKind}
+use Rattle.aeth_components.specs.{declared.making.RouterKind.TheVariants.ByHeader}
+use Rattle.aeth_components.specs.{declared.turns.Turns.Turns}
 use Rattle.aeth_components.proofs.EndLemmas.{IsAtEnds-receivers, IsAtEnds-senders}
 use Rattle.aeth_components.proofs.KindLemmas.{frames-kind}
-use Rattle.aeth_components.proofs.MadeLemmas.{Made, IsInterface, IsRouter, IsStage, length-new_parts}
-use Rattle.aeth_components.proofs.MadeLemmas.{made-at, part-at}
+use Rattle.aeth_components.proofs.MadeLemmas.{Made, IsInterface, IsRouter, IsStage}
+use Rattle.aeth_components.proofs.MadeLemmas.{length-new_parts, made-at, part-at}
 use Rattle.aeth_components.proofs.ReceivedLemmas.{AreReceived-new}
 use Rattle.aeth_components.proofs.WayLemmas.{forwarded-empty}
 

@@ -1,10 +1,8 @@
 -- Laws of how many wires have a flit.
-use Rattle.std.proofs.Common.{ℕ, zero, suc, ◌≡◌, ◌+◌, ◌≤◌, refl, sym, ◌∙◌, arith}
-use Rattle.std.proofs.Common.{List, [], ◌∷◌, take, Option, Some, None, IsSome}
-use Rattle.std.proofs.Common.{is_some}
+use Rattle.std.proofs.Common.{ℕ, zero, suc, ◌≡◌, ◌+◌, ◌≤◌, refl, sym, ◌∙◌, arith, List, [], ◌∷◌}
+use Rattle.std.proofs.Common.{take, Option, Some, None, IsSome, is_some}
 use Rattle.aeth_base.proofs.Lists.{count_by-no, count_by-yes}
-use Rattle.aeth_clocked.specs.Wires.{flit_on}
-use Rattle.aeth_clocked.specs.declared.flit.Flit.{Flit}
+use Rattle.aeth_clocked.specs.{Wires.flit_on, declared.flit.Flit.Flit}
 use Rattle.aeth_components.specs.Turns.{flits_on}
 
 -- One wire more with a flit.

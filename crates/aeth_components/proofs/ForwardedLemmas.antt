@@ -1,10 +1,8 @@
 -- What has been passed on of the wires so far, of the flits that go on alike in every cycle.
-use Rattle.std.proofs.Common.{ℕ, suc, ◌≡◌, ◌<◌, ◌≤◌, ◌+◌, refl, sym, ◌∙◌, ap, arith, subst}
-use Rattle.std.proofs.Common.{List, Option, Some, None, length, map, true}
-use Rattle.std.specs.Prelude.{replicate}
+use Rattle.std.proofs.Common.{ℕ, suc, ◌≡◌, ◌<◌, ◌≤◌, ◌+◌, refl, sym, ◌∙◌, ap, arith, subst, List}
+use Rattle.std.proofs.Common.{Option, Some, None, length, map, true, replicate}
 use Rattle.aeth_base.proofs.Lists.{map-at}
-use Rattle.aeth_clocked.specs.Wires.{flit_on}
-use Rattle.aeth_clocked.specs.declared.flit.Flit.{Flit}
+use Rattle.aeth_clocked.specs.{Wires.flit_on, declared.flit.Flit.Flit}
 use Rattle.aeth_router.proofs.OnwardLemmas.{CameFrom-next, CameFrom-skip, arrival_at-none}
 use Rattle.aeth_router.specs.Onward.{Adds, Arrival, CameFrom, Nothing, arrival_at, arrived}
 use Rattle.aeth_router.specs.Passing.{forwarded}
@@ -13,10 +11,8 @@ use Rattle.aeth_router.specs.declared.part.Part.TheVariants.{Interface, Router, 
 use Rattle.aeth_components.proofs.LandedLemmas.{Lands, receiver-at}
 use Rattle.aeth_components.proofs.PassedLemmas.{receiver}
 use Rattle.aeth_components.proofs.WayLemmas.{forwarded-at, forwarded-empty}
-use Rattle.aeth_components.specs.Ends.{AreEnds, is_interface}
-use Rattle.aeth_components.specs.Frames.{IsWired, frame_of}
-use Rattle.aeth_components.specs.Passing.{forwarded_from, way_of}
-use Rattle.aeth_components.specs.declared.ends.Ends.{Ends}
+use Rattle.aeth_components.specs.{Ends.AreEnds, Ends.is_interface, Frames.IsWired, Frames.frame_of}
+use Rattle.aeth_components.specs.{Passing.forwarded_from, Passing.way_of, declared.ends.Ends.Ends}
 
 -- An interface passes nothing on.
 forwarded-by-interface : (part : Part) (out : ℕ) (flit : Option Flit)

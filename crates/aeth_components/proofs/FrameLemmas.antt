@@ -1,32 +1,24 @@
 -- Laws of what never changes of components.
-use Rattle.std.proofs.Common.{ℕ, ◌≡◌, refl, sym, ◌∙◌, ap, length, map, Bool}
-use Rattle.std.proofs.Common.{List, [], ◌∷◌, get_or, Option, Some, None}
-use Rattle.std.specs.List.{All}
-use Rattle.std.proofs.Common.{◌<◌, zero, suc, slice_get, true}
+use Rattle.std.proofs.Common.{ℕ, ◌≡◌, refl, sym, ◌∙◌, ap, length, map, Bool, List, [], ◌∷◌, get_or}
+use Rattle.std.proofs.Common.{Option, Some, None, ◌<◌, zero, suc, slice_get, true, IsSome}
 use Rattle.std.proofs.lemmas.List.FromFn.{length-map-range_with_len}
-use Rattle.std.proofs.lemmas.Option.{same_Some}
+use Rattle.std.proofs.lemmas.Option.{same_Some, slice_get-map}
+use Rattle.std.specs.{List.All, Option.option_map}
 use Rattle.aeth_base.proofs.Members.{All-from_map}
-use Rattle.aeth_clocked.specs.Driven.{driven, is_output}
+use Rattle.aeth_clocked.specs.{Driven.driven, Driven.is_output, Driven.AreDisjoint, Wires.AreLinks}
+use Rattle.aeth_clocked.specs.{Wires.flit_on, declared.flit.Flit.Flit}
 use Rattle.aeth_clocked.proofs.DrivenLemmas.{is_output-at}
-use Rattle.aeth_router.specs.Part.{emit_of}
-use Rattle.std.specs.Prelude.{IsSome}
-use Rattle.std.specs.Option.{option_map}
-use Rattle.std.proofs.lemmas.Option.{slice_get-map}
-use Rattle.aeth_clocked.specs.Wires.{AreLinks, flit_on}
-use Rattle.aeth_ni.proofs.InterfaceLemmas.{length-with_queue}
-use Rattle.aeth_clocked.specs.Driven.{AreDisjoint}
-use Rattle.aeth_clocked.specs.declared.flit.Flit.{Flit}
+use Rattle.aeth_router.specs.Part.{emit_of, absorb_of, after_of, inputs_of, outputs_of}
 use Rattle.aeth_router.specs.declared.part.Part.{Part}
 use Rattle.aeth_router.specs.declared.part.Part.TheVariants.{Interface, Router, Stage, TableRouter}
-use Rattle.aeth_router.specs.Part.{absorb_of, after_of, inputs_of, outputs_of}
+use Rattle.aeth_ni.proofs.InterfaceLemmas.{length-with_queue}
+use Rattle.aeth_ni.specs.{Component.Arrival, Component.absorbed, Component.arrival_of}
+use Rattle.aeth_ni.specs.{Component.flit_sent_by, Component.landed_at, Component.queue_at_cycle}
+use Rattle.aeth_ni.specs.{Interface.InterfaceState, Interface.changed, Interface.with_queue}
+use Rattle.aeth_ni.specs.{Queue.QueueState, Queue.flit_landed, Sending.flit_sent}
 use Rattle.aeth_components.specs.Components.{wires_driven}
 use Rattle.aeth_components.specs.Frames.{Frame, InterfaceFrame, IsWired, frame_of, receives_by}
 use Rattle.aeth_components.specs.Frames.{sends_by}
-use Rattle.aeth_ni.specs.Component.{Arrival, absorbed, arrival_of, flit_sent_by, landed_at}
-use Rattle.aeth_ni.specs.Component.{queue_at_cycle}
-use Rattle.aeth_ni.specs.Interface.{InterfaceState, changed, with_queue}
-use Rattle.aeth_ni.specs.Queue.{QueueState, flit_landed}
-use Rattle.aeth_ni.specs.Sending.{flit_sent}
 
 -- The outputs of a component are those of its frame, and so are its inputs.
 pub outputs_of-frame : (part : Part) (link : ℕ) → outputs_of part link ≡ sends_by (frame_of part) link

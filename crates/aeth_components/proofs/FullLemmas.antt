@@ -1,24 +1,20 @@
 -- Laws of source queues that words are put into: a full one stays full, and its channel is left alone.
-use Rattle.std.proofs.Common.{ℕ, zero, suc, ◌≡◌, ◌≤◌, ◌-◌, ◌∙◌, arith, inl, inr}
-use Rattle.std.proofs.Common.{List, [], ◌∷◌, Option, Some, None, get_or, length, set, slice_get, take}
-use Rattle.std.specs.Option.{option_map_or}
+use Rattle.std.proofs.Common.{ℕ, zero, suc, ◌≡◌, ◌≤◌, ◌-◌, ◌∙◌, arith, inl, inr, List, [], ◌∷◌}
+use Rattle.std.proofs.Common.{Option, Some, None, get_or, length, set, slice_get, take}
+use Rattle.std.proofs.Common.{length-append, length-take}
 use Rattle.std.proofs.lemmas.Bool.{cases_Bool}
-use Rattle.std.proofs.lemmas.List.{length-append, length-take}
-use Rattle.aeth_ni.specs.Interface.{changed, queue_at}
-use Rattle.aeth_ni.specs.Limits.{waiting_words}
-use Rattle.aeth_ni.specs.Queue.{QueueState, empty_queue}
+use Rattle.std.specs.Option.{option_map_or}
+use Rattle.aeth_ni.specs.{Interface.changed, Interface.queue_at, Limits.waiting_words}
+use Rattle.aeth_ni.specs.{Queue.QueueState, Queue.empty_queue}
 use Rattle.aeth_router.specs.declared.part.Part.{Part}
 use Rattle.aeth_router.specs.declared.part.Part.TheVariants.{Interface, Router, Stage, TableRouter}
-use Rattle.aeth_components.specs.declared.lane.ChannelEnd.{ChannelEnd}
-use Rattle.aeth_components.specs.declared.lane.Lane.{Lane}
-use Rattle.aeth_components.specs.declared.handing.Handing.{Handing}
+use Rattle.aeth_components.specs.{declared.lane.ChannelEnd.ChannelEnd, declared.lane.Lane.Lane}
+use Rattle.aeth_components.specs.{declared.handing.Handing.Handing, Changes.on_interface}
+use Rattle.aeth_components.specs.{Changes.told_by, Changes.with_part, Lanes.is_open, Phases.left_of}
+use Rattle.aeth_components.specs.{Phases.refilled, Queues.filled, Queues.fits, Handing.IsFull}
+use Rattle.aeth_components.specs.{Handing.IsResting, Handing.room_left}
 use Rattle.aeth_components.proofs.TurnLemmas.{handed_on-none, refilled-closed, refilled-none}
 use Rattle.aeth_components.proofs.TurnLemmas.{refilled-open}
-use Rattle.aeth_components.specs.Changes.{on_interface, told_by, with_part}
-use Rattle.aeth_components.specs.Lanes.{is_open}
-use Rattle.aeth_components.specs.Phases.{left_of, refilled}
-use Rattle.aeth_components.specs.Queues.{filled, fits}
-use Rattle.aeth_components.specs.Handing.{IsFull, IsResting, room_left}
 
 -- Where words are put into one queue, there is no more room in any.
 room-filled : (words : List ℕ) (queue : QueueState) → room_left (filled words queue) ≤ room_left queue

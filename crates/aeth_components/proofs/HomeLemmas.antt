@@ -1,22 +1,16 @@
 -- Laws of the places at which channels are noted.
-use Rattle.std.proofs.Common.{ℕ, ◌≡◌, ◌<◌, ◌^◌, ◌∙◌, sym, ap, arith, subst, inl, inr, true}
-use Rattle.std.proofs.Common.{List, length, length-set, map, refl, slice_get, Some}
+use Rattle.std.proofs.Common.{ℕ, ◌≡◌, ◌<◌, ◌^◌, ◌∙◌, sym, ap, arith, subst, inl, inr, true, List}
+use Rattle.std.proofs.Common.{length, length-set, map, refl, slice_get, Some}
+use Rattle.std.proofs.lemmas.{Bool.cases_Bool, Bool.cases_eq, List.length-map, Option.same_Some}
+use Rattle.std.proofs.lemmas.{Option.slice_get_within}
 use Rattle.std.specs.List.{slice_set}
-use Rattle.std.proofs.lemmas.Bool.{cases_Bool, cases_eq}
-use Rattle.std.proofs.lemmas.List.{length-map}
-use Rattle.std.proofs.lemmas.Option.{same_Some, slice_get_within}
 use Rattle.aeth_base.proofs.Lists.{slice_get-slice_set_other, slice_get-slice_set_same}
 use Rattle.aeth_router.specs.declared.part.Part.{Part}
-use Rattle.aeth_components.specs.declared.homes.Homes.{Homes}
-use Rattle.aeth_components.specs.declared.lane.ChannelEnd.{ChannelEnd}
-use Rattle.aeth_components.specs.declared.lane.Lane.{Lane}
-use Rattle.aeth_components.specs.Busy.{AreMarked, IsIdle}
-use Rattle.aeth_components.specs.Counting.{counted}
-use Rattle.aeth_components.specs.Homes.{AreHomes, home_at}
-use Rattle.aeth_components.specs.Lanes.{is_open}
-use Rattle.aeth_components.specs.Phases.{pulled, refilled}
-use Rattle.aeth_components.proofs.CountingLemmas.{counted-none}
-use Rattle.aeth_components.proofs.FrameLemmas.{from-map}
+use Rattle.aeth_components.specs.{declared.homes.Homes.Homes, declared.lane.ChannelEnd.ChannelEnd}
+use Rattle.aeth_components.specs.{declared.lane.Lane.Lane, Busy.AreMarked, Busy.IsIdle}
+use Rattle.aeth_components.specs.{Counting.counted, Homes.AreHomes, Homes.home_at, Lanes.is_open}
+use Rattle.aeth_components.specs.{Phases.pulled, Phases.refilled}
+use Rattle.aeth_components.proofs.{CountingLemmas.counted-none, FrameLemmas.from-map}
 
 -- Whether a channel is noted at its place.
 abbrev pub IsAtHome : List ℕ → ℕ → Lane → Type 0

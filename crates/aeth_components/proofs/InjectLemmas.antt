@@ -1,32 +1,26 @@
 -- Laws of the walk over the interfaces in which each that sends something of its own drives it.
-use Rattle.std.proofs.Common.{ℕ, ◌≡◌, ◌≢◌, ◌<◌, ◌≤◌, ◌+◌, ◌%◌, refl, sym, ap, ◌∙◌, arith, cond, false}
-use Rattle.std.proofs.Common.{true, inl, inr, List, length, length-set, map, Option, Some, take}
-use Rattle.std.proofs.Common.{count_by, get_or, slice_get}
-use Rattle.std.specs.Prelude.{slice_set}
-use Rattle.std.specs.Option.{option_map}
+use Rattle.std.proofs.Common.{ℕ, ◌≡◌, ◌≢◌, ◌<◌, ◌≤◌, ◌+◌, ◌%◌, refl, sym, ap, ◌∙◌, arith, cond}
+use Rattle.std.proofs.Common.{false, true, inl, inr, List, length, length-set, map, Option, Some}
+use Rattle.std.proofs.Common.{take, count_by, get_or, slice_get, slice_set, take-take}
 use Rattle.std.proofs.lemmas.Bool.{cases_Bool, cases_eq, cases_lt}
-use Rattle.std.proofs.lemmas.List.{take-take}
 use Rattle.std.proofs.lemmas.List.Sums.{count_by_more_yes, sum_by-take-le}
 use Rattle.std.proofs.lemmas.Option.{get_or_from_slice_get, same_Some, slice_get-get_or}
 use Rattle.std.proofs.lemmas.Option.{slice_get-map, slice_get_within}
+use Rattle.std.specs.Option.{option_map}
 use Rattle.aeth_base.proofs.Lists.{same_list, slice_get-slice_set_other, slice_get-slice_set_same}
-use Rattle.aeth_clocked.specs.Wires.{Drives, flit_on}
-use Rattle.aeth_clocked.specs.declared.flit.Flit.{Flit}
-use Rattle.aeth_router.specs.Part.{after_of, emit_of, outputs_of}
-use Rattle.aeth_router.specs.declared.part.Part.{Part}
 use Rattle.aeth_base.specs.Marks.{bit_of}
-use Rattle.aeth_components.specs.declared.injecting.Injecting.{Injecting}
-use Rattle.aeth_components.specs.Frames.{IsWired, frame_of}
-use Rattle.aeth_components.specs.Injecting.{AreInjecting, marks_at}
+use Rattle.aeth_clocked.specs.{Wires.Drives, Wires.flit_on, declared.flit.Flit.Flit}
+use Rattle.aeth_router.specs.{Part.after_of, Part.emit_of, Part.outputs_of, declared.part.Part.Part}
+use Rattle.aeth_components.specs.{declared.injecting.Injecting.Injecting, Frames.IsWired}
+use Rattle.aeth_components.specs.{Frames.frame_of, Injecting.AreInjecting, Injecting.marks_at}
+use Rattle.aeth_components.specs.{Handing.HasWaitingPlaces, Handing.Wakes, Seen.interfaces_driven}
+use Rattle.aeth_components.specs.{Sending.Injects, Sending.IsSending, Turns.AreSendersMarked}
+use Rattle.aeth_components.specs.{Turns.sends_own, declared.handing.Handing.Handing}
 use Rattle.aeth_components.proofs.InjectingLemmas.{AreInjecting-sends}
-use Rattle.aeth_components.specs.Handing.{HasWaitingPlaces, Wakes}
-use Rattle.aeth_components.specs.Seen.{interfaces_driven}
-use Rattle.aeth_components.specs.Sending.{Injects, IsSending}
-use Rattle.aeth_components.specs.Turns.{AreSendersMarked, sends_own}
-use Rattle.aeth_components.specs.declared.handing.Handing.{Handing}
 use Rattle.aeth_components.proofs.FrameLemmas.{AreDisjoint-parts}
-use Rattle.aeth_components.proofs.OwnLemmas.{after-sends, flit_on-other, flit_on-own, option_map-still}
-use Rattle.aeth_components.proofs.OwnLemmas.{mute-unmarked, output-below, own_driven, still-mute}
+use Rattle.aeth_components.proofs.OwnLemmas.{after-sends, flit_on-other, flit_on-own}
+use Rattle.aeth_components.proofs.OwnLemmas.{option_map-still, mute-unmarked, output-below}
+use Rattle.aeth_components.proofs.OwnLemmas.{own_driven, still-mute}
 use Rattle.aeth_components.proofs.WakingLemmas.{Wakes-more, Wakes-none, Wakes-same}
 
 -- The components below a number have driven what they send of their own, and who waits there is woken.

@@ -1,22 +1,18 @@
 -- Which interfaces may send in a slot: the entries of tables, what events note of them, and that those that send are marked.
-use Rattle.std.proofs.Common.{ℕ, zero, suc, ◌≡◌, ◌≢◌, ◌<◌, ◌≤◌, ◌+◌, ◌%◌, ◌∙◌, refl, sym, ap, arith, inl, inr}
-use Rattle.std.proofs.Common.{List, [], ◌∷◌, length, map, Option, Some, None, slice_get, true}
-use Rattle.std.proofs.Common.{is_some, length-set}
-use Rattle.std.specs.Prelude.{◌⊎◌}
+use Rattle.std.proofs.Common.{ℕ, zero, suc, ◌≡◌, ◌≢◌, ◌<◌, ◌≤◌, ◌+◌, ◌%◌, ◌∙◌, refl, sym, ap, arith}
+use Rattle.std.proofs.Common.{inl, inr, List, [], ◌∷◌, length, map, Option, Some, None, slice_get}
+use Rattle.std.proofs.Common.{true, is_some, length-set, ◌⊎◌}
+use Rattle.std.proofs.lemmas.{Bool.cases_eq, Bool.cases_lt, List.get_or_default, List.get_or_past}
+use Rattle.std.proofs.lemmas.{List.length-map, Option.get_or_from_slice_get, Option.same_Some}
 use Rattle.std.specs.List.{slice_index_or}
-use Rattle.std.proofs.lemmas.Bool.{cases_eq, cases_lt}
-use Rattle.std.proofs.lemmas.List.{get_or_default, get_or_past, length-map}
-use Rattle.std.proofs.lemmas.Option.{get_or_from_slice_get, same_Some}
-use Rattle.aeth_base.specs.Limits.{max_slots}
-use Rattle.aeth_base.specs.Marks.{bit_of, room_of}
+use Rattle.aeth_base.specs.{Limits.max_slots, Marks.bit_of, Marks.room_of}
 use Rattle.aeth_base.proofs.Lists.{map-at}
-use Rattle.aeth_ni.specs.Component.{emitted_by}
-use Rattle.aeth_ni.specs.Interface.{InterfaceState, queue_at}
-use Rattle.aeth_ni.specs.Queue.{QueueState}
-use Rattle.aeth_ni.specs.Sending.{emitted}
-use Rattle.aeth_ni.specs.Writes.{addressee, written}
-use Rattle.aeth_ni.specs.declared.write.Write.{Write}
-use Rattle.aeth_ni.specs.declared.write.Write.TheVariants.{ClearSlot, ClearRoute, SetRoute, SetSlot}
+use Rattle.aeth_ni.specs.{Component.emitted_by, Interface.InterfaceState, Interface.queue_at}
+use Rattle.aeth_ni.specs.{Queue.QueueState, Sending.emitted, Writes.addressee, Writes.written}
+use Rattle.aeth_ni.specs.{declared.write.Write.Write, declared.write.Write.TheVariants.ClearSlot}
+use Rattle.aeth_ni.specs.{declared.write.Write.TheVariants.ClearRoute}
+use Rattle.aeth_ni.specs.{declared.write.Write.TheVariants.SetRoute}
+use Rattle.aeth_ni.specs.{declared.write.Write.TheVariants.SetSlot}
 use Rattle.aeth_router.specs.declared.part.Part.{Part}
 use Rattle.aeth_router.specs.declared.part.Part.TheVariants.{Interface, Router, Stage, TableRouter}
 use Rattle.aeth_components.specs.declared.event.Event.{Event}
@@ -26,11 +22,11 @@ use Rattle.aeth_components.specs.declared.lane.ChannelEnd.{ChannelEnd}
 use Rattle.aeth_components.specs.Changes.{event_done, happened, on_interface, with_part}
 use Rattle.aeth_components.specs.Events.{IsDoable, event_part}
 use Rattle.aeth_components.specs.Frames.{Frame}
-use Rattle.aeth_components.specs.Injecting.{AreEntered, AreInjecting, HasPlaces, IsEntered, MarksMore}
-use Rattle.aeth_components.specs.Injecting.{NotesEvent, entries_of, entry_at, marks_at, may_send}
-use Rattle.aeth_components.specs.Injecting.{table_at}
-use Rattle.aeth_components.specs.Switching.{SlotWrite, Touches, Writes, entry_of, event_end, slot_write}
-use Rattle.aeth_components.specs.Switching.{slot_written}
+use Rattle.aeth_components.specs.Injecting.{AreEntered, AreInjecting, HasPlaces, IsEntered}
+use Rattle.aeth_components.specs.Injecting.{MarksMore, NotesEvent, entries_of, entry_at, marks_at}
+use Rattle.aeth_components.specs.Injecting.{may_send, table_at}
+use Rattle.aeth_components.specs.Switching.{SlotWrite, Touches, Writes, entry_of, event_end}
+use Rattle.aeth_components.specs.Switching.{slot_write, slot_written}
 use Rattle.aeth_components.specs.Turns.{AreSendersMarked, sends_own}
 use Rattle.aeth_components.specs.View.{queue_in}
 use Rattle.aeth_components.proofs.PartLemmas.{length-with_part}

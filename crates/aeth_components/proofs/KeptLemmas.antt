@@ -1,28 +1,23 @@
 -- What a cycle keeps of channels: all but how many words were handed on, have landed and were taken.
 use Rattle.std.proofs.Common.{◌≡◌, ◌∙◌, ◌+◌, ℕ, List, [], ◌∷◌, Option, Some, None, fold, length}
-use Rattle.std.proofs.Common.{map}
-use Rattle.std.proofs.Common.{refl, sym, ap, inl, inr, slice_get}
-use Rattle.std.specs.List.{range_with_len}
-use Rattle.std.specs.Option.{option_map}
+use Rattle.std.proofs.Common.{map, refl, sym, ap, inl, inr, slice_get}
 use Rattle.std.proofs.Math.Seq.{map-set_same}
-use Rattle.std.proofs.lemmas.Bool.{cases_Bool}
-use Rattle.std.proofs.lemmas.Option.{get_or_from_slice_get, slice_get-map}
+use Rattle.std.proofs.lemmas.{Bool.cases_Bool, Option.get_or_from_slice_get, Option.slice_get-map}
+use Rattle.std.specs.{List.range_with_len, Option.option_map}
 use Rattle.aeth_clocked.specs.declared.flit.Flit.{Flit}
 use Rattle.aeth_router.specs.declared.part.Part.{Part}
 use Rattle.aeth_components.proofs.CountingLemmas.{counted-closed, counted-open}
 use Rattle.aeth_components.proofs.FrameLemmas.{from-map}
 use Rattle.aeth_components.proofs.TurnLemmas.{pulled-closed, pulled-open, refilled-closed}
 use Rattle.aeth_components.proofs.TurnLemmas.{refilled-open}
-use Rattle.aeth_components.specs.declared.event.Event.{Event}
-use Rattle.aeth_components.specs.declared.lane.Lane.{Lane}
-use Rattle.aeth_components.specs.Changes.{told_at}
-use Rattle.aeth_components.specs.Components.{ComponentsState, Cycle, driven_from, latched_of}
-use Rattle.aeth_components.specs.Components.{moment_of, ready_of, switched_from}
-use Rattle.aeth_components.specs.Counting.{brings, counted}
-use Rattle.aeth_components.specs.Lanes.{is_open}
-use Rattle.aeth_components.specs.Phases.{Moment, asked_of, left_of, pulled, refilled, turned}
-use Rattle.aeth_components.specs.Phases.{turned_at}
-use Rattle.aeth_components.specs.Queues.{draws, fits}
+use Rattle.aeth_components.specs.{declared.event.Event.Event, declared.lane.Lane.Lane}
+use Rattle.aeth_components.specs.{Changes.told_at, Components.ComponentsState, Components.Cycle}
+use Rattle.aeth_components.specs.{Components.driven_from, Components.latched_of}
+use Rattle.aeth_components.specs.{Components.moment_of, Components.ready_of}
+use Rattle.aeth_components.specs.{Components.switched_from, Counting.brings, Counting.counted}
+use Rattle.aeth_components.specs.{Lanes.is_open, Phases.Moment, Phases.asked_of, Phases.left_of}
+use Rattle.aeth_components.specs.{Phases.pulled, Phases.refilled, Phases.turned, Phases.turned_at}
+use Rattle.aeth_components.specs.{Queues.draws, Queues.fits}
 
 -- A view of a channel that doesn't tell these counts.
 abbrev pub IsUncounted : {V : Type 0} → (Lane → V) → Type 0

@@ -1,7 +1,7 @@
 -- The components of a chip with routers of either kind have the same frames and slot tables.
 use Rattle.std.proofs.Common.{ℕ, ◌≡◌, ◌∙◌, refl, sym, ap, List, [], ◌∷◌, ◌++◌, length, map}
-use Rattle.std.specs.List.{range_with_len}
 use Rattle.std.proofs.lemmas.List.{length-map, map-append}
+use Rattle.std.specs.List.{range_with_len}
 use Rattle.aeth_chip.specs.Chip.{ChipData}
 use Rattle.aeth_router.specs.declared.part.Part.{Part}
 use Rattle.aeth_components.specs.declared.making.RouterKind.{RouterKind}

@@ -1,23 +1,19 @@
 -- One wire more has a flit: where it lands, and what is counted of that.
-use Rattle.std.proofs.Common.{ℕ, ◌≡◌, ◌≢◌, ◌≤◌, ◌<◌, ◌==◌, refl, sym, ap, ◌∙◌, inl, inr, true, false}
-use Rattle.std.proofs.Common.{is_some, List, fold, get_or, length, map, set, Option, Some, None}
-use Rattle.std.proofs.Common.{slice_get}
-use Rattle.std.proofs.lemmas.Bool.{cases_eq, eq-eqb, eqb-true}
-use Rattle.std.proofs.lemmas.Option.{get_or_from_slice_get, same_Some}
+use Rattle.std.proofs.Common.{ℕ, ◌≡◌, ◌≢◌, ◌≤◌, ◌<◌, ◌==◌, refl, sym, ap, ◌∙◌, inl, inr, true}
+use Rattle.std.proofs.Common.{false, is_some, List, fold, get_or, length, map, set, Option, Some}
+use Rattle.std.proofs.Common.{None, slice_get, eq-eqb, eqb-true}
+use Rattle.std.proofs.lemmas.{Bool.cases_eq, Option.get_or_from_slice_get, Option.same_Some}
 use Rattle.aeth_base.proofs.Lists.{map-at}
-use Rattle.aeth_clocked.specs.Wires.{flit_on}
-use Rattle.aeth_clocked.specs.declared.flit.Flit.{Flit}
+use Rattle.aeth_clocked.specs.{Wires.flit_on, declared.flit.Flit.Flit}
 use Rattle.aeth_ni.specs.Component.{absorbed, arrival_of, interface_absorb}
 use Rattle.aeth_ni.specs.Interface.{InterfaceState}
 use Rattle.aeth_router.specs.declared.part.Part.{Part}
 use Rattle.aeth_router.specs.declared.part.Part.TheVariants.{Interface, Router, Stage, TableRouter}
-use Rattle.aeth_components.specs.Changes.{on_interface}
-use Rattle.aeth_components.specs.Counting.{counted_among, noted_among}
-use Rattle.aeth_components.specs.Ends.{AreEnds, is_interface}
-use Rattle.aeth_components.specs.Frames.{IsWired, frame_of}
-use Rattle.aeth_components.specs.Seen.{flits_landed, interfaces_latched, landed}
-use Rattle.aeth_components.specs.declared.ends.Ends.{Ends}
-use Rattle.aeth_components.specs.declared.lane.Lane.{Lane}
+use Rattle.aeth_components.specs.{Changes.on_interface, Counting.counted_among}
+use Rattle.aeth_components.specs.{Counting.noted_among, Ends.AreEnds, Ends.is_interface}
+use Rattle.aeth_components.specs.{Frames.IsWired, Frames.frame_of, Seen.flits_landed}
+use Rattle.aeth_components.specs.{Seen.interfaces_latched, Seen.landed, declared.ends.Ends.Ends}
+use Rattle.aeth_components.specs.{declared.lane.Lane.Lane}
 use Rattle.aeth_components.proofs.ComeLemmas.{came-found, came_to, landing-same, landing_of}
 use Rattle.aeth_components.proofs.MapLemmas.{map-agree, map-apart}
 use Rattle.aeth_components.proofs.PassedLemmas.{end-of, input-of, receiver}

@@ -1,10 +1,8 @@
 -- Laws of a change of one lane.
-use Rattle.std.proofs.Common.{ℕ, zero, suc, ◌≡◌, ◌≢◌, ◌<◌, ◌∙◌, refl, sym, ap, arith}
-use Rattle.std.proofs.Common.{List, [], ◌∷◌, length, get_or, set}
-use Rattle.std.proofs.Common.{Some, slice_get}
+use Rattle.std.proofs.Common.{ℕ, zero, suc, ◌≡◌, ◌≢◌, ◌<◌, ◌∙◌, refl, sym, ap, arith, List, [], ◌∷◌}
+use Rattle.std.proofs.Common.{length, get_or, set, Some, slice_get}
 use Rattle.std.proofs.lemmas.Option.{get_or_from_slice_get, same_Some, slice_get_within}
-use Rattle.aeth_components.specs.declared.lane.Lane.{Lane}
-use Rattle.aeth_components.specs.Lanes.{with_lane}
+use Rattle.aeth_components.specs.{declared.lane.Lane.Lane, Lanes.with_lane}
 
 -- A lane that is changed at its place has changed.
 pub set-with_lane : (lanes : List Lane) (number : ℕ) (change : Lane → Lane)

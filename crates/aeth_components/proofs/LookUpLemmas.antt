@@ -1,13 +1,11 @@
 -- What is passed on of wires in a cycle, where all that goes on alike in every cycle was passed on before.
 use Rattle.std.proofs.Common.{ℕ, ◌≡◌, ◌<◌, ◌≤◌, ◌+◌, ◌∙◌, refl, sym, ap, arith, subst, inl, inr}
-use Rattle.std.proofs.Common.{true, false, if◌then◌else◌, nat_lt}
-use Rattle.std.proofs.Common.{List, Option, Some, None, length, map, slice_get}
+use Rattle.std.proofs.Common.{true, false, if◌then◌else◌, nat_lt, List, Option, Some, None, length}
+use Rattle.std.proofs.Common.{map, slice_get, le-ltb, lt-ltb}
+use Rattle.std.proofs.lemmas.Bool.{cases_lt}
 use Rattle.std.specs.List.{All}
-use Rattle.std.proofs.lemmas.Bool.{cases_lt, le-ltb, lt-ltb}
-use Rattle.aeth_base.proofs.Lists.{map-at}
-use Rattle.aeth_base.proofs.Members.{All-slice_get}
-use Rattle.aeth_clocked.specs.Wires.{flit_on}
-use Rattle.aeth_clocked.specs.declared.flit.Flit.{Flit}
+use Rattle.aeth_base.proofs.{Lists.map-at, Members.All-slice_get}
+use Rattle.aeth_clocked.specs.{Wires.flit_on, declared.flit.Flit.Flit}
 use Rattle.aeth_router.proofs.PassingLemmas.{passed-empty}
 use Rattle.aeth_router.specs.Onward.{Adds, Arrival, CameFrom, arrival_at, arrived}
 use Rattle.aeth_router.specs.Passing.{forwarded, has_table, passed}
@@ -16,10 +14,9 @@ use Rattle.aeth_components.proofs.ArrivalLemmas.{CameFrom-more, CameFrom-same}
 use Rattle.aeth_components.proofs.PassedLemmas.{passed-at, receiver}
 use Rattle.aeth_components.proofs.WayLemmas.{forwarded-at, forwarded-by-table, forwarded-empty}
 use Rattle.aeth_components.proofs.WayLemmas.{passed-alike}
-use Rattle.aeth_components.specs.Ends.{AreEnds}
-use Rattle.aeth_components.specs.Frames.{IsWired, frame_of}
-use Rattle.aeth_components.specs.Passing.{forwarded_from, passed_from, way_of}
-use Rattle.aeth_components.specs.declared.ends.Ends.{Ends}
+use Rattle.aeth_components.specs.{Ends.AreEnds, Frames.IsWired, Frames.frame_of}
+use Rattle.aeth_components.specs.{Passing.forwarded_from, Passing.passed_from, Passing.way_of}
+use Rattle.aeth_components.specs.{declared.ends.Ends.Ends}
 
 module _ (parts : List Part) (wires : List (Option Flit)) (ends : Ends) (cycle : ℕ) where
   -- What goes to an output of a wire, where tables were looked up for all wires below a number.

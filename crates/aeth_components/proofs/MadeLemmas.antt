@@ -1,40 +1,31 @@
 -- Laws of the components of a chip: they are wired.
-use Rattle.std.proofs.Common.{ℕ, ◌≡◌, ◌<◌, ◌+◌, ◌-◌, refl, sym, ◌∙◌, ap, arith}
-use Rattle.std.proofs.Common.{List, [], ◌∷◌, ◌++◌, length, map, get_or, Some}
-use Rattle.std.proofs.Common.{slice_get, true, inl, inr, eqb-true}
-use Rattle.std.proofs.lemmas.Bool.{cases_lt, eq-eqb}
-use Rattle.std.specs.Prelude.{◌==◌, slice_index, ◌⊎◌}
-use Rattle.std.specs.List.{range_with_len}
-use Rattle.std.specs.Option.{option_map}
-use Rattle.std.proofs.lemmas.List.{length-append, take_all}
+use Rattle.std.proofs.Common.{ℕ, ◌≡◌, ◌<◌, ◌+◌, ◌-◌, refl, sym, ◌∙◌, ap, arith, List, [], ◌∷◌, ◌++◌}
+use Rattle.std.proofs.Common.{length, map, get_or, Some, slice_get, true, inl, inr, eqb-true}
+use Rattle.std.proofs.Common.{eq-eqb, ◌==◌, slice_index, ◌⊎◌, length-append, take_all}
+use Rattle.std.proofs.lemmas.Bool.{cases_lt}
 use Rattle.std.proofs.lemmas.List.FromFn.{length-map-range_with_len}
 use Rattle.std.proofs.lemmas.Option.{slice_get-get_or, slice_get-map, slice_get_within, same_Some}
-use Rattle.aeth_base.proofs.Lists.{item-at}
-use Rattle.aeth_base.proofs.Ranges.{map-range-at}
+use Rattle.std.specs.{List.range_with_len, Option.option_map}
+use Rattle.aeth_base.proofs.{Lists.item-at, Ranges.map-range-at}
 use Rattle.aeth_chip.specs.Chip.{ChipData, IsChip, IsNode}
 use Rattle.aeth_chip.specs.Nodes.{begins_at, receives_on, same_node, sends_on}
 use Rattle.aeth_chip.specs.Wires.{HaveDelays, further_wires, wire_at, wires_of}
 use Rattle.aeth_chip.specs.declared.node.Link.{Link}
-use Rattle.aeth_chip.specs.declared.node.Node.{Node}
-use Rattle.aeth_chip.specs.declared.node.Node.TheVariants.{Router, Ni}
-use Rattle.aeth_chip.proofs.WireLemmas.{have_delays, wire_at-behind}
-use Rattle.aeth_chip.proofs.WireLemmas.{wire_at-below, wires_of-split}
+use Rattle.aeth_chip.specs.declared.node.Node.{Node, TheVariants.Router, TheVariants.Ni}
+use Rattle.aeth_chip.proofs.WireLemmas.{have_delays, wire_at-behind, wire_at-below, wires_of-split}
+use Rattle.aeth_chip.proofs.NodeLemmas.{same_node-refl}
 use Rattle.aeth_router.proofs.LinkLemmas.{is_among-from_passes, passes-from_is_among}
 use Rattle.aeth_router.proofs.WireLemmas.{AreLinks-entering_wires}
-use Rattle.aeth_router.specs.Router.{is_among, last_wire}
-use Rattle.aeth_router.specs.declared.part.Part.{Part}
+use Rattle.aeth_router.specs.{Router.is_among, Router.last_wire, declared.part.Part.Part}
 use Rattle.aeth_components.proofs.FrameLemmas.{from-map}
 use Rattle.aeth_components.proofs.MadeParts.{StageAt, among-first, among-only, at-append}
-use Rattle.aeth_components.proofs.MadeParts.{length-made_stages}
-use Rattle.aeth_components.specs.Ends.{part_number}
-use Rattle.aeth_components.proofs.MadeParts.{part_number-below}
-use Rattle.aeth_chip.proofs.NodeLemmas.{same_node-refl}
-use Rattle.aeth_components.proofs.MadeParts.{same_node-place, stage-at}
-use Rattle.aeth_components.specs.Components.{part_count}
-use Rattle.aeth_components.specs.Frames.{Frame, IsWired, frame_of, receives_by, sends_by}
-use Rattle.aeth_components.specs.Making.{made_interface, made_router, made_stage}
-use Rattle.aeth_components.specs.Making.{made_stages, new_parts}
-use Rattle.aeth_components.specs.declared.making.RouterKind.TheVariants.{ByHeader}
+use Rattle.aeth_components.proofs.MadeParts.{length-made_stages, part_number-below, same_node-place}
+use Rattle.aeth_components.proofs.MadeParts.{stage-at}
+use Rattle.aeth_components.specs.{Ends.part_number, Components.part_count, Frames.Frame}
+use Rattle.aeth_components.specs.{Frames.IsWired, Frames.frame_of, Frames.receives_by}
+use Rattle.aeth_components.specs.{Frames.sends_by, Making.made_interface, Making.made_router}
+use Rattle.aeth_components.specs.{Making.made_stage, Making.made_stages, Making.new_parts}
+use Rattle.aeth_components.specs.{declared.making.RouterKind.TheVariants.ByHeader}
 
 -- The component of a number is an interface, a router, or a stage.
 pub data Made (chip : ChipData) (rooms : List ℕ) (i : ℕ) (part : Part) : Type 0 where

@@ -1,29 +1,18 @@
 -- Lists of components: ranges, nodes by their places, and the stages of links.
 use Rattle.std.proofs.Common.{ℕ, zero, suc, ◌≡◌, ◌<◌, ◌≤◌, ◌+◌, ◌-◌, refl, sym, ◌∙◌, ap, arith}
-use Rattle.std.proofs.Common.{List, [], ◌∷◌, ◌++◌, length, take, Some}
-use Rattle.std.proofs.Common.{slice_get, true, false, inl, inr, eqb-true}
+use Rattle.std.proofs.Common.{List, [], ◌∷◌, ◌++◌, length, take, Some, slice_get, true, false, inl}
+use Rattle.std.proofs.Common.{inr, eqb-true, ◌==◌, slice_index, ◌⊎◌, length-append}
 use Rattle.std.proofs.lemmas.Bool.{cases_Bool}
-use Rattle.std.specs.Prelude.{◌==◌, slice_index, ◌⊎◌}
-use Rattle.std.specs.List.{range_with_len}
-use Rattle.std.proofs.lemmas.List.{length-append}
-use Rattle.std.proofs.lemmas.List.FromFn.{length-map-range_with_len}
-use Rattle.aeth_chip.specs.Chip.{IsNode}
-use Rattle.aeth_chip.specs.Nodes.{same_node}
-use Rattle.aeth_chip.specs.Paths.{delay_of}
-use Rattle.aeth_chip.specs.Wires.{further_wires}
-use Rattle.aeth_chip.specs.declared.node.Link.{Link}
-use Rattle.aeth_chip.specs.declared.node.Node.{Node}
-use Rattle.aeth_chip.specs.declared.node.Node.TheVariants.{Router, Ni}
-use Rattle.aeth_chip.proofs.WireLemmas.{sum_by-take_more}
-use Rattle.aeth_router.specs.Router.{is_among}
-use Rattle.aeth_router.specs.declared.part.Part.{Part}
-use Rattle.aeth_base.proofs.Lists.{item-at}
-use Rattle.aeth_base.proofs.Ranges.{map-range-at, range_with_len-more}
-use Rattle.std.proofs.lemmas.List.{flat_map_more}
-use Rattle.std.specs.List.{flat_map}
+use Rattle.std.proofs.lemmas.List.{FromFn.length-map-range_with_len, flat_map_more}
+use Rattle.std.specs.List.{range_with_len, flat_map}
+use Rattle.aeth_chip.{specs.Chip.IsNode, specs.Nodes.same_node, specs.Paths.delay_of}
+use Rattle.aeth_chip.{specs.Wires.further_wires, specs.declared.node.Link.Link}
+use Rattle.aeth_chip.{specs.declared.node.Node.Node, specs.declared.node.Node.TheVariants.Router}
+use Rattle.aeth_chip.{specs.declared.node.Node.TheVariants.Ni, proofs.WireLemmas.sum_by-take_more}
+use Rattle.aeth_router.specs.{Router.is_among, declared.part.Part.Part}
+use Rattle.aeth_base.proofs.{Lists.item-at, Ranges.map-range-at, Ranges.range_with_len-more}
 use Rattle.aeth_components.specs.Ends.{part_number}
-use Rattle.aeth_components.specs.Making.{link_stages, made_stage}
-use Rattle.aeth_components.specs.Making.{made_stages}
+use Rattle.aeth_components.specs.Making.{link_stages, made_stage, made_stages}
 
 -- An element of two lists in a row is one of either.
 pub at-append : {X : Type 0} (xs ys : List X) (i : ℕ) (x : X) → slice_get (xs ++ ys) i ≡ Some x

@@ -1,23 +1,17 @@
 -- Laws of the masks that mark channels.
-use Rattle.std.proofs.Common.{ℕ, ◌≡◌, ◌∷◌, ◌+◌, ◌≢◌, ◌<◌, ◌≤◌, ◌/◌, ◌%◌, ◌∙◌, []}
-use Rattle.std.proofs.Common.{sym, ap, arith}
-use Rattle.std.proofs.Common.{inl, inr, subst, List, get_or, length}
-use Rattle.std.proofs.Common.{length-set, set, Some, slice_get}
+use Rattle.std.proofs.Common.{ℕ, ◌≡◌, ◌∷◌, ◌+◌, ◌≢◌, ◌<◌, ◌≤◌, ◌/◌, ◌%◌, ◌∙◌, [], sym, ap, arith}
+use Rattle.std.proofs.Common.{inl, inr, subst, List, get_or, length, length-set, set, Some}
+use Rattle.std.proofs.Common.{slice_get, slice_index}
+use Rattle.std.proofs.lemmas.{Bool.cases_Bool, Bool.cases_eq, Bool.cases_lt, List.get_or_past}
+use Rattle.std.proofs.lemmas.{Nat.Bits.bit_at-zero, Option.same_Some, Option.slice_get-get_or}
+use Rattle.std.proofs.lemmas.{Option.slice_get_within}
 use Rattle.std.specs.Int.{bit_at}
-use Rattle.std.specs.Prelude.{slice_index}
-use Rattle.std.proofs.lemmas.Bool.{cases_Bool, cases_eq, cases_lt}
-use Rattle.std.proofs.lemmas.List.{get_or_past}
-use Rattle.std.proofs.lemmas.Nat.Bits.{bit_at-zero}
-use Rattle.std.proofs.lemmas.Option.{same_Some}
-use Rattle.std.proofs.lemmas.Option.{slice_get-get_or, slice_get_within}
 use Rattle.aeth_base.proofs.Lists.{slice_get-slice_set_other, slice_get-slice_set_same}
-use Rattle.aeth_router.specs.declared.part.Part.{Part}
-use Rattle.aeth_components.specs.declared.lane.Lane.{Lane}
+use Rattle.aeth_base.proofs.MarkedLemmas.{is_marked-one, is_marked-zero, next-passing, none-passing}
 use Rattle.aeth_base.specs.Marks.{bit_of, is_marked, marked_from, numbers_of_mask, room_of}
-use Rattle.aeth_base.proofs.MarkedLemmas.{is_marked-one, is_marked-zero, next-passing}
-use Rattle.aeth_base.proofs.MarkedLemmas.{none-passing}
-use Rattle.aeth_components.specs.Busy.{AreMarked}
-use Rattle.aeth_components.specs.Phases.{Moment, turned_by}
+use Rattle.aeth_router.specs.declared.part.Part.{Part}
+use Rattle.aeth_components.specs.{declared.lane.Lane.Lane, Busy.AreMarked, Phases.Moment}
+use Rattle.aeth_components.specs.{Phases.turned_by}
 
 -- A channel has changed: the masks mark as before, where it is idle if it was.
 pub AreMarked-set : {IsStill : Lane → Type 0} (masks : List ℕ) (lanes : List Lane) (number : ℕ)

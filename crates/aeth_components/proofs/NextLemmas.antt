@@ -1,14 +1,11 @@
 -- Which components send something of their own in a cycle, and in cycles whose slots come round again.
-use Rattle.std.proofs.Common.{ℕ, ◌≡◌, ◌<◌, ◌≤◌, ◌+◌, ◌∙◌, ap, arith}
-use Rattle.std.proofs.Common.{is_some, length, List, Option, true}
-use Rattle.aeth_ni.specs.Component.{emitted_by}
-use Rattle.aeth_ni.proofs.RestingLemmas.{queue_at_cycle-round}
+use Rattle.std.proofs.Common.{ℕ, ◌≡◌, ◌<◌, ◌≤◌, ◌+◌, ◌∙◌, ap, arith, is_some, length, List, Option}
+use Rattle.std.proofs.Common.{true}
+use Rattle.aeth_ni.{specs.Component.emitted_by, proofs.RestingLemmas.queue_at_cycle-round}
 use Rattle.aeth_router.specs.declared.part.Part.{Part}
 use Rattle.aeth_router.specs.declared.part.Part.TheVariants.{Interface, Router, Stage, TableRouter}
-use Rattle.aeth_components.specs.First.{HasSender}
-use Rattle.aeth_components.specs.Injecting.{AreInjecting, entries_of}
-use Rattle.aeth_components.specs.declared.injecting.Injecting.{Injecting}
-use Rattle.aeth_components.specs.Turns.{sends_own}
+use Rattle.aeth_components.specs.{First.HasSender, Injecting.AreInjecting, Injecting.entries_of}
+use Rattle.aeth_components.specs.{declared.injecting.Injecting.Injecting, Turns.sends_own}
 use Rattle.aeth_components.proofs.InjectingLemmas.{length-sends}
 
 -- It sends in some cycle that is no more than a table behind another.

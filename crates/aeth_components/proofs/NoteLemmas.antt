@@ -1,18 +1,16 @@
 -- Laws of the cycles in which words land, as they are noted, and of the flits that are counted.
-use Rattle.std.proofs.Common.{ℕ, zero, suc, ◌≡◌, ◌<◌, ◌≤◌, ◌+◌, refl, sym, ◌∙◌, arith}
-use Rattle.std.proofs.Common.{List, [], ◌∷◌, length, fold, Option, Some, slice_get, inl, inr}
-use Rattle.std.proofs.Common.{true, false}
+use Rattle.std.proofs.Common.{ℕ, zero, suc, ◌≡◌, ◌<◌, ◌≤◌, ◌+◌, refl, sym, ◌∙◌, arith, List, []}
+use Rattle.std.proofs.Common.{◌∷◌, length, fold, Option, Some, slice_get, inl, inr, true, false}
 use Rattle.std.proofs.lemmas.Bool.{cases_Bool, cases_eq, cases_lt}
 use Rattle.std.proofs.lemmas.Option.{same_Some, slice_get_within}
 use Rattle.aeth_base.proofs.Lists.{slice_get-slice_set_same, slice_get-slice_set_other}
 use Rattle.aeth_clocked.specs.declared.flit.Flit.{Flit}
 use Rattle.aeth_router.specs.declared.part.Part.{Part}
-use Rattle.aeth_components.specs.declared.lane.Lane.{Lane}
+use Rattle.aeth_components.specs.{declared.lane.Lane.Lane, Counting.brings, Counting.flits_counted}
+use Rattle.aeth_components.specs.{Counting.noted, Counting.with_flit, Counting.written_over}
+use Rattle.aeth_components.specs.{Lanes.is_open, Laws.LandsAt, Laws.NotesAlone}
 use Rattle.aeth_components.proofs.CountingLemmas.{length-noted, length-written_over, noted-closed}
 use Rattle.aeth_components.proofs.CountingLemmas.{noted-open}
-use Rattle.aeth_components.specs.Counting.{brings, flits_counted, noted, with_flit, written_over}
-use Rattle.aeth_components.specs.Lanes.{is_open}
-use Rattle.aeth_components.specs.Laws.{LandsAt, NotesAlone}
 
 -- A place among those that are written over.
 pub written_over-within : (count from value : ℕ) (list : List ℕ) (place : ℕ)

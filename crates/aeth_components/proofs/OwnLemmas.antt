@@ -1,24 +1,21 @@
 -- Laws of what an interface sends of its own: what it drives then, and what it leaves of itself.
-use Rattle.std.proofs.Common.{ℕ, ◌≡◌, ◌<◌, ◌≤◌, ◌∙◌, refl, sym, ap, [], Bool, false, true, List, length}
-use Rattle.std.proofs.Common.{map, None, Option, Some, slice_get, arith, inl, inr}
-use Rattle.std.specs.Prelude.{unwrap_or}
-use Rattle.std.specs.Option.{option_map}
+use Rattle.std.proofs.Common.{ℕ, ◌≡◌, ◌<◌, ◌≤◌, ◌∙◌, refl, sym, ap, [], Bool, false, true, List}
+use Rattle.std.proofs.Common.{length, map, None, Option, Some, slice_get, arith, inl, inr}
+use Rattle.std.proofs.Common.{unwrap_or}
 use Rattle.std.proofs.lemmas.Bool.{cases_Bool, cases_lt}
 use Rattle.std.proofs.lemmas.Option.{get_or_from_slice_get, slice_get_within}
+use Rattle.std.specs.Option.{option_map}
 use Rattle.aeth_base.specs.Marks.{bit_of, marked_from}
-use Rattle.aeth_clocked.specs.Wires.{Drives, flit_on}
-use Rattle.aeth_clocked.specs.declared.flit.Flit.{Flit}
+use Rattle.aeth_clocked.specs.{Wires.Drives, Wires.flit_on, declared.flit.Flit.Flit}
 use Rattle.aeth_ni.proofs.RestingLemmas.{RestsDrive-interface}
 use Rattle.aeth_ni.specs.Component.{emitted_by, interface_after, queue_at_cycle}
 use Rattle.aeth_ni.specs.Interface.{InterfaceState}
 use Rattle.aeth_router.specs.Part.{after_of, emit_of, outputs_of}
 use Rattle.aeth_router.specs.declared.part.Part.{Part}
 use Rattle.aeth_router.specs.declared.part.Part.TheVariants.{Interface, Router, Stage, TableRouter}
-use Rattle.aeth_components.specs.Changes.{on_interface}
-use Rattle.aeth_components.specs.Ends.{is_interface}
-use Rattle.aeth_components.specs.First.{HasSender}
-use Rattle.aeth_components.specs.Frames.{IsWired, frame_of}
-use Rattle.aeth_components.specs.Turns.{AreSendersMarked, sends_own}
+use Rattle.aeth_components.specs.{Changes.on_interface, Ends.is_interface, First.HasSender}
+use Rattle.aeth_components.specs.{Frames.IsWired, Frames.frame_of, Turns.AreSendersMarked}
+use Rattle.aeth_components.specs.{Turns.sends_own}
 use Rattle.aeth_components.proofs.FrameLemmas.{AreLinks-outputs, none-unless}
 use Rattle.aeth_components.proofs.MarkLemmas.{NextMarked, unmarked-behind}
 

@@ -1,25 +1,23 @@
 -- Laws of a change of one component.
-use Rattle.std.proofs.Common.{ℕ, zero, suc, ◌≡◌, ◌<◌, ◌+◌, take, refl, sym, ◌∙◌, ap, arith}
-use Rattle.std.proofs.Common.{List, [], ◌∷◌, length, map, fold, get_or, set, Option, Some}
-use Rattle.std.proofs.Common.{slice_get, subst}
-use Rattle.std.specs.Prelude.{IfSome}
-use Rattle.std.specs.Option.{option_map, option_map_or}
-use Rattle.std.proofs.lemmas.List.{length-map, length-set, take_more}
-use Rattle.std.proofs.lemmas.List.Sums.{fold_push}
+use Rattle.std.proofs.Common.{ℕ, zero, suc, ◌≡◌, ◌<◌, ◌+◌, take, refl, sym, ◌∙◌, ap, arith, List}
+use Rattle.std.proofs.Common.{[], ◌∷◌, length, map, fold, get_or, set, Option, Some, slice_get}
+use Rattle.std.proofs.Common.{subst, IfSome, length-set}
+use Rattle.std.proofs.lemmas.List.{length-map, take_more, Sums.fold_push}
 use Rattle.std.proofs.lemmas.Option.{slice_get-get_or, slice_get-map}
+use Rattle.std.specs.Option.{option_map, option_map_or}
 use Rattle.aeth_ni.specs.declared.write.Write.{Write}
 use Rattle.aeth_ni.specs.declared.write.Write.TheVariants.{ClearSlot, ClearRoute, SetRoute, SetSlot}
+use Rattle.aeth_ni.specs.Interface.{InterfaceState}
+use Rattle.aeth_ni.specs.Queue.{finished, stopped, with_route, without_route}
+use Rattle.aeth_ni.specs.Writes.{written}
 use Rattle.aeth_router.specs.declared.part.Part.{Part}
 use Rattle.aeth_router.specs.declared.part.Part.TheVariants.{Interface, Router, Stage, TableRouter}
 use Rattle.aeth_components.specs.declared.event.Event.{Event}
 use Rattle.aeth_components.specs.declared.event.Event.TheVariants.{Halt, Finish, Change}
-use Rattle.aeth_components.proofs.FrameLemmas.{frame_of-changed}
 use Rattle.aeth_components.specs.Changes.{event_done, happened, on_interface, switched, with_part}
 use Rattle.aeth_components.specs.Events.{IsDoable, Suits, event_part}
 use Rattle.aeth_components.specs.Frames.{Frame, frame_of}
-use Rattle.aeth_ni.specs.Interface.{InterfaceState}
-use Rattle.aeth_ni.specs.Queue.{finished, stopped, with_route, without_route}
-use Rattle.aeth_ni.specs.Writes.{written}
+use Rattle.aeth_components.proofs.FrameLemmas.{frame_of-changed}
 
 -- A component that is changed at its place has changed.
 pub set-with_part : (parts : List Part) (number : ℕ) (change : Part → Part) (default : Part)

@@ -1,13 +1,9 @@
 -- What is passed on to a wire is what the component that sends there emits of what it holds.
-use Rattle.std.proofs.Common.{ℕ, ◌≡◌, ◌<◌, ◌≤◌, refl, sym, ◌∙◌, ap, subst, inl, inr}
-use Rattle.std.proofs.Common.{List, Option, Some, None, length, map, slice_get, true}
-use Rattle.std.specs.Prelude.{IsSome}
-use Rattle.std.proofs.lemmas.Bool.{cases_Bool, eqb-true}
-use Rattle.std.proofs.lemmas.Option.{same_Some}
-use Rattle.aeth_base.proofs.Lists.{map-at}
-use Rattle.aeth_base.proofs.Members.{All-slice_get}
-use Rattle.aeth_clocked.specs.Wires.{AreLinks, flit_on}
-use Rattle.aeth_clocked.specs.declared.flit.Flit.{Flit}
+use Rattle.std.proofs.Common.{ℕ, ◌≡◌, ◌<◌, ◌≤◌, refl, sym, ◌∙◌, ap, subst, inl, inr, List, Option}
+use Rattle.std.proofs.Common.{Some, None, length, map, slice_get, true, IsSome, eqb-true}
+use Rattle.std.proofs.lemmas.{Bool.cases_Bool, Option.same_Some}
+use Rattle.aeth_base.proofs.{Lists.map-at, Members.All-slice_get}
+use Rattle.aeth_clocked.specs.{Wires.AreLinks, Wires.flit_on, declared.flit.Flit.Flit}
 use Rattle.aeth_router.proofs.PassingLemmas.{passed-output, router-sole, stage-sole, table-sole}
 use Rattle.aeth_router.specs.Onward.{Arrival, CameFrom, carried}
 use Rattle.aeth_router.specs.Part.{emit_of, inputs_of, outputs_of}
@@ -17,11 +13,9 @@ use Rattle.aeth_router.specs.declared.part.Part.TheVariants.{Interface, Router, 
 use Rattle.aeth_components.proofs.FrameLemmas.{AreDisjoint-parts, AreLinks-inputs, from-map}
 use Rattle.aeth_components.proofs.FrameLemmas.{inputs_of-frame, none-unless}
 use Rattle.aeth_components.proofs.CarriedLemmas.{carried-none, carried-sole}
-use Rattle.aeth_components.specs.Ends.{AreEnds}
-use Rattle.aeth_components.specs.Frames.{AreInputsApart, Frame, IsWired, frame_of, receives_by}
-use Rattle.aeth_components.specs.Passing.{passed_from}
-use Rattle.aeth_components.specs.Seen.{seen}
-use Rattle.aeth_components.specs.declared.ends.Ends.{Ends}
+use Rattle.aeth_components.specs.{Ends.AreEnds, Frames.AreInputsApart, Frames.Frame, Frames.IsWired}
+use Rattle.aeth_components.specs.{Frames.frame_of, Frames.receives_by, Passing.passed_from}
+use Rattle.aeth_components.specs.{Seen.seen, declared.ends.Ends.Ends}
 
 module _ (parts : List Part) (wires : List (Option Flit)) (ends : Ends) (cycle : ℕ)
     (wired : IsWired (map frame_of parts) (length wires))

@@ -1,10 +1,9 @@
 -- Laws of what is done at one queue.
 use Rattle.std.proofs.Common.{ℕ, zero, suc, ◌≡◌, ◌<◌, ◌≤◌, ◌+◌, ◌-◌, min, refl, sym, ◌∙◌, ap, ap₂}
-use Rattle.std.proofs.Common.{arith}
-use Rattle.std.proofs.Common.{List, [], ◌∷◌, length, drop, set, inl, inr, length-drop, Option}
-use Rattle.std.proofs.Common.{is_some, slice_get, true, false}
-use Rattle.std.proofs.lemmas.Bool.{cases_eq, eq-eqb, ne_eqb}
-use Rattle.std.proofs.lemmas.List.{set-get_or, set-set, get_or-set_same, drop_all, drop-drop}
+use Rattle.std.proofs.Common.{arith, List, [], ◌∷◌, length, drop, set, inl, inr, length-drop}
+use Rattle.std.proofs.Common.{Option, is_some, slice_get, true, false, eq-eqb, ne_eqb, set-set}
+use Rattle.std.proofs.Common.{get_or-set_same, drop-drop}
+use Rattle.std.proofs.lemmas.{Bool.cases_eq, List.set-get_or, List.drop_all}
 use Rattle.aeth_components.specs.Queues.{drawn}
 use Rattle.aeth_ni.specs.Interface.{InterfaceState, changed, queue_at}
 use Rattle.aeth_ni.specs.Limits.{max_count}

@@ -1,30 +1,27 @@
 -- On each wire of a chip a component receives, and none receives on a wire twice.
-use Rattle.std.proofs.Common.{ℕ, ◌≡◌, ◌<◌, ◌+◌, ◌-◌, refl, sym, ◌∙◌, ap, arith}
-use Rattle.std.proofs.Common.{List, [], ◌∷◌, length, map, get_or, Some, slice_get, true, inl, inr}
-use Rattle.std.proofs.lemmas.Bool.{cases_eq, cases_lt, eq-eqb, eqb-true}
-use Rattle.std.specs.Prelude.{slice_index}
-use Rattle.std.specs.Option.{option_map}
+use Rattle.std.proofs.Common.{ℕ, ◌≡◌, ◌<◌, ◌+◌, ◌-◌, refl, sym, ◌∙◌, ap, arith, List, [], ◌∷◌}
+use Rattle.std.proofs.Common.{length, map, get_or, Some, slice_get, true, inl, inr, eq-eqb}
+use Rattle.std.proofs.Common.{eqb-true, slice_index}
+use Rattle.std.proofs.lemmas.Bool.{cases_eq, cases_lt}
 use Rattle.std.proofs.lemmas.Option.{slice_get-get_or, slice_get-map}
+use Rattle.std.specs.Option.{option_map}
 use Rattle.aeth_base.proofs.Lists.{item-at, map-slice_get}
 use Rattle.aeth_base.proofs.Members.{Contains-list_any, Contains-map, list_any-Contains}
 use Rattle.aeth_chip.specs.Chip.{ChipData, IsChip, IsNode}
 use Rattle.aeth_chip.specs.Nodes.{ends_at, receives_on, same_node}
 use Rattle.aeth_chip.specs.Wires.{wire_at, wires_of}
 use Rattle.aeth_chip.specs.declared.node.Link.{Link}
-use Rattle.aeth_chip.specs.declared.node.Node.{Node}
-use Rattle.aeth_chip.specs.declared.node.Node.TheVariants.{Ni, Router}
+use Rattle.aeth_chip.specs.declared.node.Node.{Node, TheVariants.Ni, TheVariants.Router}
 use Rattle.aeth_chip.proofs.NodeLemmas.{numbers_from-once, receives_on-found, same_node-refl}
 use Rattle.aeth_chip.proofs.WireLemmas.{further_wires-within, have_delays, wire_at-behind}
 use Rattle.aeth_chip.proofs.WireLemmas.{wires_of-split}
 use Rattle.aeth_router.specs.Router.{AreDistinctLinks, is_among, last_wire}
 use Rattle.aeth_router.specs.declared.part.Part.{Part}
-use Rattle.aeth_router.proofs.LinkLemmas.{is_among-from_passes}
-use Rattle.aeth_router.proofs.WireLemmas.{last_wire-is}
-use Rattle.aeth_components.specs.Components.{part_count}
-use Rattle.aeth_components.specs.Ends.{AreReceived, part_number, receiver_for, stage_number}
-use Rattle.aeth_components.specs.Frames.{AreInputsApart, frame_of, receives_by}
-use Rattle.aeth_components.specs.Making.{made_stages, new_parts}
-use Rattle.aeth_components.specs.declared.making.RouterKind.TheVariants.{ByHeader}
+use Rattle.aeth_router.proofs.{LinkLemmas.is_among-from_passes, WireLemmas.last_wire-is}
+use Rattle.aeth_components.specs.{Components.part_count, Ends.AreReceived, Ends.part_number}
+use Rattle.aeth_components.specs.{Ends.receiver_for, Ends.stage_number, Frames.AreInputsApart}
+use Rattle.aeth_components.specs.{Frames.frame_of, Frames.receives_by, Making.made_stages}
+use Rattle.aeth_components.specs.{Making.new_parts, declared.making.RouterKind.TheVariants.ByHeader}
 use Rattle.aeth_components.proofs.EndLemmas.{ReceivesAt, last-receiver, stage-receiver}
 use Rattle.aeth_components.proofs.MadeLemmas.{Made, IsInterface, IsRouter, IsStage}
 use Rattle.aeth_components.proofs.MadeLemmas.{length-new_parts, length-stages, made-at, part-at}

@@ -1,15 +1,12 @@
 -- Who receives on each wire of a chip, noted link by link and wire by wire.
-use Rattle.std.proofs.Common.{ℕ, ◌≡◌, ◌+◌, ◌≤◌, ◌<◌, sym, ap, ◌∙◌, arith, inl, inr}
-use Rattle.std.proofs.Common.{List, length, length-set, set, Some, slice_get}
+use Rattle.std.proofs.Common.{ℕ, ◌≡◌, ◌+◌, ◌≤◌, ◌<◌, sym, ap, ◌∙◌, arith, inl, inr, List, length}
+use Rattle.std.proofs.Common.{length-set, set, Some, slice_get}
+use Rattle.std.proofs.lemmas.{Bool.cases_eq, List.Elements.All-set, Option.same_Some}
+use Rattle.std.proofs.lemmas.{Option.slice_get_within}
 use Rattle.std.specs.List.{All}
-use Rattle.std.proofs.lemmas.Bool.{cases_eq}
-use Rattle.std.proofs.lemmas.List.Elements.{All-set}
-use Rattle.std.proofs.lemmas.Option.{same_Some, slice_get_within}
 use Rattle.aeth_base.proofs.Lists.{slice_get-slice_set_same, slice_get-slice_set_other}
-use Rattle.aeth_chip.specs.Chip.{ChipData, IsChip}
-use Rattle.aeth_chip.specs.Paths.{delay_in, delay_of}
-use Rattle.aeth_chip.specs.Wires.{wire_at, wires_of}
-use Rattle.aeth_chip.specs.declared.node.Link.{Link}
+use Rattle.aeth_chip.specs.{Chip.ChipData, Chip.IsChip, Paths.delay_in, Paths.delay_of}
+use Rattle.aeth_chip.specs.{Wires.wire_at, Wires.wires_of, declared.node.Link.Link}
 use Rattle.aeth_chip.proofs.WireLemmas.{have_delays, wire_at-apart, wire_at-below}
 use Rattle.aeth_components.specs.Components.{part_count}
 use Rattle.aeth_components.specs.Ends.{AreReceivers, NotedTo, receiver_for}

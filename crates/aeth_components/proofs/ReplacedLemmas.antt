@@ -2,30 +2,25 @@
 -- was.
 use Rattle.std.proofs.Common.{ℕ, ◌≡◌, ◌≢◌, ◌<◌, ◌≤◌, ◌==◌, refl, sym, ◌∙◌, ap, arith, inl, inr}
 use Rattle.std.proofs.Common.{true, false, if◌then◌else◌, List, [], length, map, set, slice_get}
-use Rattle.std.proofs.Common.{Option, Some, None}
-use Rattle.std.specs.Prelude.{slice_index, unwrap_or}
-use Rattle.std.specs.Option.{option_map}
-use Rattle.std.proofs.lemmas.Bool.{cases_Bool, cases_eq, cases_lt, eq-eqb, eqb-true}
+use Rattle.std.proofs.Common.{Option, Some, None, slice_index, unwrap_or, eq-eqb, eqb-true}
+use Rattle.std.proofs.lemmas.Bool.{cases_Bool, cases_eq, cases_lt}
 use Rattle.std.proofs.lemmas.List.{length-map}
 use Rattle.std.proofs.lemmas.List.FromFn.{get_or-map-range_with_len, length-map-range_with_len}
-use Rattle.std.proofs.lemmas.Option.{get_or_from_slice_get, same_Some, slice_get-get_or, slice_get-map}
-use Rattle.std.proofs.lemmas.Option.{slice_get_past, slice_get_within}
+use Rattle.std.proofs.lemmas.Option.{get_or_from_slice_get, same_Some, slice_get-get_or}
+use Rattle.std.proofs.lemmas.Option.{slice_get-map, slice_get_past, slice_get_within}
+use Rattle.std.specs.Option.{option_map}
 use Rattle.aeth_base.proofs.Lists.{same_list, slice_get-slice_set_other, slice_get-slice_set_same}
-use Rattle.aeth_clocked.specs.Wires.{flit_on}
-use Rattle.aeth_clocked.specs.declared.flit.Flit.{Flit}
+use Rattle.aeth_clocked.specs.{Wires.flit_on, declared.flit.Flit.Flit}
 use Rattle.aeth_ni.specs.Component.{arrival_of, last_of}
 use Rattle.aeth_router.proofs.LinkLemmas.{is_among-at}
 use Rattle.aeth_router.specs.Part.{inputs_of}
 use Rattle.aeth_router.specs.Router.{is_among}
 use Rattle.aeth_router.specs.declared.part.Part.{Part}
 use Rattle.aeth_router.specs.declared.part.Part.TheVariants.{Interface, Router, Stage, TableRouter}
-use Rattle.aeth_components.proofs.MapLemmas.{map-agree}
-use Rattle.aeth_components.proofs.PassedLemmas.{end-of, input-of}
-use Rattle.aeth_components.specs.Ends.{AreEnds}
-use Rattle.aeth_components.specs.Frames.{IsWired, frame_of}
-use Rattle.aeth_components.specs.Replacing.{emptied, without_held}
-use Rattle.aeth_components.specs.Seen.{all_seen, seen}
-use Rattle.aeth_components.specs.declared.ends.Ends.{Ends}
+use Rattle.aeth_components.proofs.{MapLemmas.map-agree, PassedLemmas.end-of, PassedLemmas.input-of}
+use Rattle.aeth_components.specs.{Ends.AreEnds, Frames.IsWired, Frames.frame_of, Replacing.emptied}
+use Rattle.aeth_components.specs.{Replacing.without_held, Seen.all_seen, Seen.seen}
+use Rattle.aeth_components.specs.{declared.ends.Ends.Ends}
 
 -- Wires that agree where a component receives are seen alike by it.
 held-agree : (wires other : List (Option Flit)) (incoming : List ℕ)

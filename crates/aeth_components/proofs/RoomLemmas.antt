@@ -1,43 +1,29 @@
 -- Laws of the room in source queues: which phases of a cycle leave a full queue full.
-use Rattle.std.proofs.Common.{ℕ, zero, suc, ◌≡◌, ◌∙◌, ◌||◌, refl, sym, ap}
-use Rattle.std.proofs.Common.{inl, inr, true, false, map, List, [], ◌∷◌, length}
-use Rattle.std.proofs.Common.{Option, Some, None, slice_get, get_or, set}
-use Rattle.std.specs.Prelude.{◌==◌}
-use Rattle.std.specs.List.{list_any, range_with_len}
-use Rattle.std.specs.Option.{option_map, option_map_or}
-use Rattle.std.proofs.Math.Bool.{or-true}
-use Rattle.std.proofs.Math.ListN.{get_or-map}
-use Rattle.std.proofs.Math.Seq.{map-set_same}
-use Rattle.std.proofs.lemmas.Bool.{cases_Bool, cases_eq, eq-eqb}
-use Rattle.std.proofs.lemmas.Option.{slice_get-map}
+use Rattle.std.proofs.Common.{ℕ, zero, suc, ◌≡◌, ◌∙◌, ◌||◌, refl, sym, ap, inl, inr, true, false}
+use Rattle.std.proofs.Common.{map, List, [], ◌∷◌, length, Option, Some, None, slice_get, get_or}
+use Rattle.std.proofs.Common.{set, ◌==◌, eq-eqb}
+use Rattle.std.proofs.Math.{Bool.or-true, ListN.get_or-map, Seq.map-set_same}
+use Rattle.std.proofs.lemmas.{Bool.cases_Bool, Bool.cases_eq, Option.slice_get-map}
+use Rattle.std.specs.{List.list_any, List.range_with_len, Option.option_map, Option.option_map_or}
 use Rattle.aeth_clocked.specs.declared.flit.Flit.{Flit}
-use Rattle.aeth_ni.specs.Component.{Arrival, interface_after, landed_at}
-use Rattle.aeth_ni.specs.Interface.{changed, queue_at}
-use Rattle.aeth_ni.specs.Limits.{waiting_words}
-use Rattle.aeth_ni.specs.Queue.{QueueState, empty_queue, word_taken}
+use Rattle.aeth_ni.specs.{Component.Arrival, Component.interface_after, Component.landed_at}
+use Rattle.aeth_ni.specs.{Interface.changed, Interface.queue_at, Limits.waiting_words}
+use Rattle.aeth_ni.specs.{Queue.QueueState, Queue.empty_queue, Queue.word_taken}
 use Rattle.aeth_router.specs.declared.part.Part.{Part}
 use Rattle.aeth_router.specs.declared.part.Part.TheVariants.{Interface, Router, Stage, TableRouter}
 use Rattle.aeth_router.specs.declared.router_row.RouterRow.{RouterRow}
-use Rattle.aeth_components.specs.declared.event.Event.{Event}
-use Rattle.aeth_components.specs.declared.lane.ChannelEnd.{ChannelEnd}
-use Rattle.aeth_components.specs.declared.lane.Lane.{Lane}
-use Rattle.aeth_components.proofs.AloneLemmas.{slice_get-with_part_other}
-use Rattle.aeth_components.proofs.OwnLemmas.{still-mute}
-use Rattle.aeth_components.proofs.PartLemmas.{views-with_part}
-use Rattle.aeth_components.proofs.QueueLemmas.{taken-none, taken-some}
-use Rattle.aeth_components.proofs.SeenPhases.{views-landed}
-use Rattle.aeth_components.proofs.TurnLemmas.{views-turns}
-use Rattle.aeth_components.specs.Changes.{event_done, happened, on_interface, switched}
-use Rattle.aeth_components.specs.Changes.{told_at, told_by}
-use Rattle.aeth_components.specs.Entering.{entered, with_rows}
-use Rattle.aeth_components.specs.Events.{event_part}
-use Rattle.aeth_components.specs.Lanes.{is_open}
-use Rattle.aeth_components.specs.Phases.{Moment, asked_of, in_turn, pulled}
-use Rattle.aeth_components.specs.Queues.{drawn}
-use Rattle.aeth_components.specs.Handing.{HasEvent, IsFull, room_left}
-use Rattle.aeth_components.specs.Seen.{flits_landed, interfaces_driven}
-use Rattle.aeth_components.specs.Sending.{IsSending}
-use Rattle.aeth_components.specs.Turns.{sends_own}
+use Rattle.aeth_components.specs.{declared.event.Event.Event, declared.lane.ChannelEnd.ChannelEnd}
+use Rattle.aeth_components.specs.{declared.lane.Lane.Lane, Changes.event_done, Changes.happened}
+use Rattle.aeth_components.specs.{Changes.on_interface, Changes.switched, Changes.told_at}
+use Rattle.aeth_components.specs.{Changes.told_by, Entering.entered, Entering.with_rows}
+use Rattle.aeth_components.specs.{Events.event_part, Lanes.is_open, Phases.Moment, Phases.asked_of}
+use Rattle.aeth_components.specs.{Phases.in_turn, Phases.pulled, Queues.drawn, Handing.HasEvent}
+use Rattle.aeth_components.specs.{Handing.IsFull, Handing.room_left, Seen.flits_landed}
+use Rattle.aeth_components.specs.{Seen.interfaces_driven, Sending.IsSending, Turns.sends_own}
+use Rattle.aeth_components.proofs.{AloneLemmas.slice_get-with_part_other, OwnLemmas.still-mute}
+use Rattle.aeth_components.proofs.{PartLemmas.views-with_part, QueueLemmas.taken-none}
+use Rattle.aeth_components.proofs.{QueueLemmas.taken-some, SeenPhases.views-landed}
+use Rattle.aeth_components.proofs.{TurnLemmas.views-turns}
 
 -- The room in the source queues of an interface.
 abbrev rooms_of : Part → Option (List ℕ)

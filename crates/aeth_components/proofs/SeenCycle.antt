@@ -3,18 +3,12 @@
 use Rattle.std.proofs.Common.{ℕ, zero, suc, ◌≡◌, ◌∙◌, refl, sym, ap, ap₂, subst, arith, inl, inr}
 use Rattle.std.proofs.Common.{List, [], ◌∷◌, ◌++◌, length, map, fold, replicate, get_or, slice_get}
 use Rattle.std.proofs.Common.{Option, Some, None}
-use Rattle.std.specs.List.{All, flat_map, range_with_len}
-use Rattle.std.specs.Option.{option_map_or}
-use Rattle.std.proofs.lemmas.Bool.{cases_Bool}
-use Rattle.std.proofs.lemmas.List.{get_or-map, length-map, map-append}
-use Rattle.aeth_base.specs.declared.ids.LinkId.{LinkId}
-use Rattle.aeth_base.proofs.Lists.{map-at}
-use Rattle.aeth_chip.specs.Chip.{ChipData}
-use Rattle.aeth_chip.specs.Wires.{wire_at}
-use Rattle.aeth_chip.specs.declared.node.Link.{Link}
+use Rattle.std.proofs.lemmas.{Bool.cases_Bool, List.get_or-map, List.length-map, List.map-append}
+use Rattle.std.specs.{List.All, List.flat_map, List.range_with_len, Option.option_map_or}
+use Rattle.aeth_base.{specs.declared.ids.LinkId.LinkId, proofs.Lists.map-at}
+use Rattle.aeth_chip.specs.{Chip.ChipData, Wires.wire_at, declared.node.Link.Link}
 use Rattle.aeth_clocked.proofs.ClearLemmas.{flit_on-replicate}
-use Rattle.aeth_clocked.specs.Wires.{flit_on}
-use Rattle.aeth_clocked.specs.declared.flit.Flit.{Flit}
+use Rattle.aeth_clocked.specs.{Wires.flit_on, declared.flit.Flit.Flit}
 use Rattle.aeth_router.specs.Router.{entering_wires, new_router}
 use Rattle.aeth_router.specs.Rows.{is_for, with_row, without_entries}
 use Rattle.aeth_router.specs.TableRouter.{TableRouterState, new_table_router, table_absorb}
@@ -23,19 +17,16 @@ use Rattle.aeth_router.specs.declared.part.Part.TheVariants.{Interface, Router, 
 use Rattle.aeth_router.specs.declared.router_row.RouterRow.{RouterRow}
 use Rattle.aeth_ni.specs.Component.{arrival_of, interface_absorb, last_of}
 use Rattle.aeth_ni.specs.Interface.{InterfaceState}
-use Rattle.aeth_components.specs.Changes.{on_interface}
-use Rattle.aeth_components.specs.Counting.{counted, noted}
-use Rattle.aeth_components.specs.Entering.{TakesRows, entered, with_rows}
-use Rattle.aeth_components.specs.First.{HasSender, IsFirst}
-use Rattle.aeth_components.specs.Making.{link_stages, made_interface, made_router, made_stage}
-use Rattle.aeth_components.specs.Making.{made_stages, new_parts}
-use Rattle.aeth_components.specs.Queues.{brought_by, words_for}
-use Rattle.aeth_components.specs.Seen.{all_seen, flits_landed, interfaces_latched, landed}
-use Rattle.aeth_components.specs.Seen.{seen}
-use Rattle.aeth_components.specs.Turns.{sends_own}
-use Rattle.aeth_components.specs.declared.lane.Lane.{Lane}
-use Rattle.aeth_components.specs.declared.making.RouterKind.{RouterKind}
-use Rattle.aeth_components.specs.declared.making.RouterKind.TheVariants.{ByHeader, ByTable}
+use Rattle.aeth_components.specs.{Changes.on_interface, Counting.counted, Counting.noted}
+use Rattle.aeth_components.specs.{Entering.TakesRows, Entering.entered, Entering.with_rows}
+use Rattle.aeth_components.specs.{First.HasSender, First.IsFirst, Making.link_stages}
+use Rattle.aeth_components.specs.{Making.made_interface, Making.made_router, Making.made_stage}
+use Rattle.aeth_components.specs.{Making.made_stages, Making.new_parts, Queues.brought_by}
+use Rattle.aeth_components.specs.{Queues.words_for, Seen.all_seen, Seen.flits_landed}
+use Rattle.aeth_components.specs.{Seen.interfaces_latched, Seen.landed, Seen.seen, Turns.sends_own}
+use Rattle.aeth_components.specs.{declared.lane.Lane.Lane, declared.making.RouterKind.RouterKind}
+use Rattle.aeth_components.specs.{declared.making.RouterKind.TheVariants.ByHeader}
+use Rattle.aeth_components.specs.{declared.making.RouterKind.TheVariants.ByTable}
 use Rattle.aeth_components.proofs.FrameLemmas.{from-map}
 
 module _ (wires : List (Option Flit)) where

@@ -1,12 +1,9 @@
 -- Changes of queues, events and the turns of channels commute with what components are seen to have of
 -- wires.
-use Rattle.std.proofs.Common.{ℕ, zero, suc, ◌≡◌, ◌∙◌, ◌+◌, refl, sym, ap, ap₂, inl, inr}
-use Rattle.std.proofs.Common.{List, [], ◌∷◌, length, map, fold}
-use Rattle.std.proofs.Common.{Option, Some, None, slice_get}
-use Rattle.std.specs.List.{range_with_len}
-use Rattle.std.specs.Option.{option_map, option_map_or}
-use Rattle.std.proofs.lemmas.Bool.{cases_Bool}
-use Rattle.std.proofs.lemmas.Option.{slice_get-map}
+use Rattle.std.proofs.Common.{ℕ, zero, suc, ◌≡◌, ◌∙◌, ◌+◌, refl, sym, ap, ap₂, inl, inr, List, []}
+use Rattle.std.proofs.Common.{◌∷◌, length, map, fold, Option, Some, None, slice_get}
+use Rattle.std.proofs.lemmas.{Bool.cases_Bool, Option.slice_get-map}
+use Rattle.std.specs.{List.range_with_len, Option.option_map, Option.option_map_or}
 use Rattle.aeth_clocked.specs.declared.flit.Flit.{Flit}
 use Rattle.aeth_ni.specs.Interface.{InterfaceState, changed}
 use Rattle.aeth_ni.specs.Queue.{QueueState}
@@ -27,8 +24,7 @@ use Rattle.aeth_components.specs.Queues.{drawn, draws, filled, fits}
 use Rattle.aeth_components.specs.Seen.{all_seen, seen}
 use Rattle.aeth_components.specs.declared.event.Event.{Event}
 use Rattle.aeth_components.specs.declared.event.Event.TheVariants.{Halt, Finish, Change}
-use Rattle.aeth_components.specs.declared.lane.ChannelEnd.{ChannelEnd}
-use Rattle.aeth_components.specs.declared.lane.Lane.{Lane}
+use Rattle.aeth_components.specs.declared.lane.{ChannelEnd.ChannelEnd, Lane.Lane}
 use Rattle.aeth_components.proofs.FrameLemmas.{views-map}
 use Rattle.aeth_components.proofs.TurnLemmas.{pulled-closed, pulled-open, refilled-closed}
 use Rattle.aeth_components.proofs.TurnLemmas.{refilled-open}

@@ -1,26 +1,23 @@
 -- A cycle of components that are seen with what their wires have, from one of components whose interfaces
 -- alone are stepped.
-use Rattle.std.proofs.Common.{ℕ, ◌≡◌, ◌∙◌, refl, sym, ap, List, [], ◌∷◌, length, map, Option}
-use Rattle.std.proofs.Common.{None, Some}
+use Rattle.std.proofs.Common.{ℕ, ◌≡◌, ◌∙◌, refl, sym, ap, List, [], ◌∷◌, length, map, Option, None}
+use Rattle.std.proofs.Common.{Some}
 use Rattle.std.specs.List.{range_with_len}
-use Rattle.aeth_clocked.specs.declared.flit.Flit.{Flit}
-use Rattle.aeth_clocked.specs.Wires.{flit_on}
+use Rattle.aeth_clocked.specs.{declared.flit.Flit.Flit, Wires.flit_on}
 use Rattle.aeth_ni.specs.Component.{Arrival, absorbed, arrival_of, interface_after}
 use Rattle.aeth_ni.specs.Interface.{InterfaceState, changed}
 use Rattle.aeth_ni.specs.Queue.{QueueState}
 use Rattle.aeth_router.specs.Part.{absorb_of, after_of}
 use Rattle.aeth_router.specs.declared.part.Part.{Part}
 use Rattle.aeth_router.specs.declared.part.Part.TheVariants.{Interface, Router, Stage, TableRouter}
-use Rattle.aeth_components.specs.Changes.{event_done, on_interface, switched}
-use Rattle.aeth_components.specs.Components.{Runs, driven_from, latched_from, latched_of, ready_of}
-use Rattle.aeth_components.specs.Components.{switched_from, wires_driven}
-use Rattle.aeth_components.specs.Frames.{frame_of}
-use Rattle.aeth_components.specs.Phases.{Moment, in_turn, pulled, refilled}
-use Rattle.aeth_components.specs.Passing.{way_of}
-use Rattle.aeth_components.specs.Seen.{all_seen, flits_landed, interfaces_driven, landed, seen}
-use Rattle.aeth_components.specs.Seen.{taken_of}
-use Rattle.aeth_components.specs.declared.event.Event.{Event}
-use Rattle.aeth_components.specs.declared.lane.Lane.{Lane}
+use Rattle.aeth_components.specs.{Changes.event_done, Changes.on_interface, Changes.switched}
+use Rattle.aeth_components.specs.{Components.Runs, Components.driven_from, Components.latched_from}
+use Rattle.aeth_components.specs.{Components.latched_of, Components.ready_of}
+use Rattle.aeth_components.specs.{Components.switched_from, Components.wires_driven}
+use Rattle.aeth_components.specs.{Frames.frame_of, Phases.Moment, Phases.in_turn, Phases.pulled}
+use Rattle.aeth_components.specs.{Phases.refilled, Passing.way_of, Seen.all_seen, Seen.flits_landed}
+use Rattle.aeth_components.specs.{Seen.interfaces_driven, Seen.landed, Seen.seen, Seen.taken_of}
+use Rattle.aeth_components.specs.{declared.event.Event.Event, declared.lane.Lane.Lane}
 use Rattle.aeth_components.proofs.FrameLemmas.{frame_of-absorbed, frames-after, views-map}
 use Rattle.aeth_components.proofs.PartLemmas.{frames-switched, views-switched}
 use Rattle.aeth_components.proofs.SeenLemmas.{frames-seen, moment_with, pulled-seen, refilled-seen}

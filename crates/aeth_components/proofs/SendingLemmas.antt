@@ -1,23 +1,19 @@
 -- Components that send something of their own are no more than wires that have a flit behind the drive.
-use Rattle.std.proofs.Common.{ℕ, zero, suc, ◌≡◌, ◌≤◌, ◌+◌, ◌∙◌, refl, sym, ap, arith, cond}
-use Rattle.std.proofs.Common.{Bool, true, false, eqb, inl, inr, List, [], ◌∷◌, map, filter}
-use Rattle.std.proofs.Common.{count_by, get_or, is_some, Some, slice_get}
+use Rattle.std.proofs.Common.{ℕ, zero, suc, ◌≡◌, ◌≤◌, ◌+◌, ◌∙◌, refl, sym, ap, arith, cond, Bool}
+use Rattle.std.proofs.Common.{true, false, eqb, inl, inr, List, [], ◌∷◌, map, filter, count_by}
+use Rattle.std.proofs.Common.{get_or, is_some, Some, slice_get, eq-eqb, ne_eqb}
+use Rattle.std.proofs.lemmas.{Bool.cases_Bool, List.length-map, List.Sums.length-filter}
+use Rattle.std.proofs.lemmas.{List.Sums.sum_by-cons, Option.get_or_from_slice_get, Option.same_Some}
+use Rattle.std.proofs.lemmas.{Option.slice_get-get_or, Option.slice_get_within}
 use Rattle.std.specs.List.{AllByRecursion, IsDistinct, range_with_len}
-use Rattle.std.proofs.lemmas.Bool.{cases_Bool, eq-eqb, ne_eqb}
-use Rattle.std.proofs.lemmas.List.{length-map}
-use Rattle.std.proofs.lemmas.List.Sums.{length-filter, sum_by-cons}
-use Rattle.std.proofs.lemmas.Option.{get_or_from_slice_get, same_Some, slice_get-get_or}
-use Rattle.std.proofs.lemmas.Option.{slice_get_within}
-use Rattle.aeth_clocked.specs.Driven.{AreDisjoint, driven}
-use Rattle.aeth_clocked.specs.Order.{AreChosen}
+use Rattle.aeth_clocked.specs.{Driven.AreDisjoint, Driven.driven, Order.AreChosen}
 use Rattle.aeth_clocked.proofs.DrivenLemmas.{AreDisjoint-tail, driven-at}
 use Rattle.aeth_clocked.proofs.FewLemmas.{chosen-few}
 use Rattle.aeth_router.specs.Part.{emit_of, outputs_of}
 use Rattle.aeth_router.specs.declared.part.Part.{Part}
 use Rattle.aeth_router.specs.declared.part.Part.TheVariants.{Interface, Router, Stage, TableRouter}
-use Rattle.aeth_components.specs.Components.{wires_driven}
-use Rattle.aeth_components.specs.Frames.{IsWired, frame_of}
-use Rattle.aeth_components.specs.Turns.{flits_on, sends_own}
+use Rattle.aeth_components.specs.{Components.wires_driven, Frames.IsWired, Frames.frame_of}
+use Rattle.aeth_components.specs.{Turns.flits_on, Turns.sends_own}
 use Rattle.aeth_components.proofs.FrameLemmas.{AreDisjoint-parts, AreLinks-outputs}
 
 -- The wire on which an interface sends.

@@ -1,19 +1,15 @@
 -- Laws of the channels that a phase passes over, since they have nothing to do in it.
-use Rattle.std.proofs.Common.{ℕ, zero, suc, ◌≡◌, ◌≤◌, ◌+◌, ◌-◌, ◌∙◌, refl, sym, ap}
-use Rattle.std.proofs.Common.{arith, List, [], ◌∷◌, fold, length, length-set}
-use Rattle.std.proofs.Common.{map, set, Option, Some, None, slice_get}
+use Rattle.std.proofs.Common.{ℕ, zero, suc, ◌≡◌, ◌≤◌, ◌+◌, ◌-◌, ◌∙◌, refl, sym, ap, arith, List, []}
+use Rattle.std.proofs.Common.{◌∷◌, fold, length, length-set, map, set, Option, Some, None}
+use Rattle.std.proofs.Common.{slice_get}
+use Rattle.std.proofs.lemmas.{List.set-get_or, List.Sums.fold_push, Option.get_or_from_slice_get}
 use Rattle.std.specs.List.{All, range_with_len}
-use Rattle.std.proofs.lemmas.List.{set-get_or}
-use Rattle.std.proofs.lemmas.List.Sums.{fold_push}
-use Rattle.std.proofs.lemmas.Option.{get_or_from_slice_get}
 use Rattle.aeth_base.proofs.Ranges.{range_with_len-more}
 use Rattle.aeth_router.specs.declared.part.Part.{Part}
-use Rattle.aeth_components.specs.declared.lane.Lane.{Lane}
+use Rattle.aeth_components.specs.{declared.lane.Lane.Lane, Channels.AreStill, Frames.frame_of}
+use Rattle.aeth_components.specs.{Lanes.IsLane, Phases.Moment, Phases.in_turn, Phases.turned}
+use Rattle.aeth_components.specs.{Phases.turned_at, Phases.turned_by}
 use Rattle.aeth_components.proofs.TurnLemmas.{All-turns, frames-turns}
-use Rattle.aeth_components.specs.Channels.{AreStill}
-use Rattle.aeth_components.specs.Frames.{frame_of}
-use Rattle.aeth_components.specs.Lanes.{IsLane}
-use Rattle.aeth_components.specs.Phases.{Moment, in_turn, turned, turned_at, turned_by}
 
 -- What stands at a place already is written there.
 pub set-there : (lanes : List Lane) (number : ℕ) (lane : Lane) → slice_get lanes number ≡ Some lane

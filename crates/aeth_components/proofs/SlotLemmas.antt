@@ -1,26 +1,22 @@
 -- What the events of a cycle do to one entry of a slot table.
-use Rattle.std.proofs.Common.{ℕ, zero, suc, ◌≡◌, ◌≢◌, refl, sym, ◌∙◌, ap, subst, inl, inr}
-use Rattle.std.proofs.Common.{arith, length, List, [], ◌∷◌, Some, None, map, set, slice_get}
-use Rattle.std.proofs.Common.{length-set}
-use Rattle.std.proofs.lemmas.Bool.{cases_eq, cases_lt}
-use Rattle.std.proofs.lemmas.List.{get_or-set_other, get_or-set_same, get_or_past}
-use Rattle.std.proofs.lemmas.Option.{same_Some}
-use Rattle.aeth_base.specs.declared.ids.LinkId.{LinkId}
-use Rattle.aeth_base.specs.declared.ids.NiId.{NiId}
+use Rattle.std.proofs.Common.{ℕ, zero, suc, ◌≡◌, ◌≢◌, refl, sym, ◌∙◌, ap, subst, inl, inr, arith}
+use Rattle.std.proofs.Common.{length, List, [], ◌∷◌, Some, None, map, set, slice_get, length-set}
+use Rattle.std.proofs.Common.{get_or-set_other, get_or-set_same}
+use Rattle.std.proofs.lemmas.{Bool.cases_eq, Bool.cases_lt, List.get_or_past, Option.same_Some}
+use Rattle.aeth_base.specs.declared.ids.{LinkId.LinkId, NiId.NiId}
 use Rattle.aeth_ni.specs.declared.write.Write.TheVariants.{ClearSlot, ClearRoute, SetRoute, SetSlot}
+use Rattle.aeth_ni.specs.Interface.{InterfaceState}
 use Rattle.aeth_router.specs.declared.part.Part.{Part}
 use Rattle.aeth_router.specs.declared.part.Part.TheVariants.{Interface, Router, Stage, TableRouter}
 use Rattle.aeth_components.specs.declared.event.Event.{Event}
 use Rattle.aeth_components.specs.declared.event.Event.TheVariants.{Halt, Finish, Change}
-use Rattle.aeth_components.proofs.AloneLemmas.{interface-at, slice_get-with_part_other}
-use Rattle.aeth_components.proofs.AloneLemmas.{slice_get-with_part_same}
-use Rattle.aeth_components.proofs.PartLemmas.{frames-happened}
 use Rattle.aeth_components.specs.Changes.{event_done, happened, on_interface, switched, with_part}
 use Rattle.aeth_components.specs.Frames.{Frame, InterfaceFrame, frame_of}
 use Rattle.aeth_components.specs.Switching.{SlotWrite, Writes, WritesAlone, entry_in, entry_of}
 use Rattle.aeth_components.specs.Switching.{slot_write}
 use Rattle.aeth_components.specs.View.{HasSlot}
-use Rattle.aeth_ni.specs.Interface.{InterfaceState}
+use Rattle.aeth_components.proofs.{AloneLemmas.interface-at, AloneLemmas.slice_get-with_part_other}
+use Rattle.aeth_components.proofs.{AloneLemmas.slice_get-with_part_same, PartLemmas.frames-happened}
 
 -- One entry of an interface is written.
 abbrev with_entry : SlotWrite → InterfaceState → InterfaceState

@@ -1,21 +1,21 @@
 -- What the events of a cycle do to one queue.
-use Rattle.std.proofs.Common.{ℕ, zero, suc, ◌≡◌, refl, sym, ◌∙◌, ap, subst, arith}
-use Rattle.std.proofs.Common.{List, [], ◌∷◌, Some, map, slice_get}
+use Rattle.std.proofs.Common.{ℕ, zero, suc, ◌≡◌, refl, sym, ◌∙◌, ap, subst, arith, List, [], ◌∷◌}
+use Rattle.std.proofs.Common.{Some, map, slice_get}
 use Rattle.std.proofs.lemmas.Option.{same_Some}
 use Rattle.aeth_ni.specs.declared.write.Write.TheVariants.{ClearSlot, ClearRoute, SetRoute, SetSlot}
+use Rattle.aeth_ni.specs.Interface.{InterfaceState}
+use Rattle.aeth_ni.specs.Queue.{QueueState, finished, stopped, with_route, without_route}
 use Rattle.aeth_router.specs.declared.part.Part.{Part}
 use Rattle.aeth_router.specs.declared.part.Part.TheVariants.{Interface, Router, Stage, TableRouter}
 use Rattle.aeth_components.specs.declared.lane.ChannelEnd.{ChannelEnd}
 use Rattle.aeth_components.specs.declared.event.Event.{Event}
 use Rattle.aeth_components.specs.declared.event.Event.TheVariants.{Halt, Finish, Change}
-use Rattle.aeth_components.proofs.AloneLemmas.{queue_of-at_end_other, queue_of-at_end_same}
-use Rattle.aeth_components.proofs.PartLemmas.{frames-happened}
 use Rattle.aeth_components.specs.Changes.{at_end, happened, on_interface, switched, with_part}
 use Rattle.aeth_components.specs.Frames.{Frame, frame_of}
 use Rattle.aeth_components.specs.Switching.{SwitchesAlone, Touches, event_end, queue_done}
 use Rattle.aeth_components.specs.View.{HasQueue, queue_of}
-use Rattle.aeth_ni.specs.Interface.{InterfaceState}
-use Rattle.aeth_ni.specs.Queue.{QueueState, finished, stopped, with_route, without_route}
+use Rattle.aeth_components.proofs.AloneLemmas.{queue_of-at_end_other, queue_of-at_end_same}
+use Rattle.aeth_components.proofs.PartLemmas.{frames-happened}
 
 -- A change that keeps the queues of an interface changes no queue.
 queue_of-kept : (parts : List Part) (number : ℕ) (change : InterfaceState → InterfaceState)

@@ -1,36 +1,28 @@
 -- The slot tables of components: what keeps them, and what they are at first.
-use Rattle.std.proofs.Common.{ℕ, ◌≡◌, ◌∙◌, refl, sym, ap, arith, subst, inl, inr}
-use Rattle.std.proofs.Common.{List, [], false, is_some, length, length-set, map, Option, Some, None}
-use Rattle.std.proofs.Common.{replicate, slice_get, true}
-use Rattle.std.specs.Prelude.{◌⊎◌, slice_set}
+use Rattle.std.proofs.Common.{ℕ, ◌≡◌, ◌∙◌, refl, sym, ap, arith, subst, inl, inr, List, [], false}
+use Rattle.std.proofs.Common.{is_some, length, length-set, map, Option, Some, None, replicate}
+use Rattle.std.proofs.Common.{slice_get, true, ◌⊎◌, slice_set}
+use Rattle.std.proofs.lemmas.{Bool.cases_eq, Bool.cases_lt, List.get_or_past, List.length-map}
+use Rattle.std.proofs.lemmas.{List.length-replicate, Option.slice_get_past}
 use Rattle.std.specs.List.{slice_index_or}
-use Rattle.std.proofs.lemmas.Bool.{cases_eq, cases_lt}
-use Rattle.std.proofs.lemmas.List.{get_or_past, length-map, length-replicate}
-use Rattle.std.proofs.lemmas.Option.{slice_get_past}
-use Rattle.aeth_base.specs.Marks.{bit_of}
-use Rattle.aeth_base.proofs.Lists.{item-at, map-at, slice_get-slice_set_other, slice_get-slice_set_same}
+use Rattle.aeth_base.{specs.Marks.bit_of, proofs.Lists.item-at, proofs.Lists.map-at}
+use Rattle.aeth_base.{proofs.Lists.slice_get-slice_set_other, proofs.Lists.slice_get-slice_set_same}
 use Rattle.aeth_chip.specs.Chip.{ChipData, IsChip}
-use Rattle.aeth_ni.specs.Queue.{QueueState, empty_queue}
-use Rattle.aeth_ni.specs.Sending.{emitted}
+use Rattle.aeth_ni.specs.{Queue.QueueState, Queue.empty_queue, Sending.emitted, Interface.changed}
 use Rattle.aeth_router.proofs.TableLemmas.{get_or-same}
 use Rattle.aeth_router.specs.declared.part.Part.{Part}
 use Rattle.aeth_router.specs.declared.part.Part.TheVariants.{Interface, Router, Stage, TableRouter}
-use Rattle.aeth_components.specs.Changes.{on_interface}
-use Rattle.aeth_ni.specs.Interface.{changed}
-use Rattle.aeth_components.specs.Components.{part_count}
-use Rattle.aeth_components.specs.Ends.{is_interface}
-use Rattle.aeth_components.specs.Frames.{frame_of}
-use Rattle.aeth_components.specs.Injecting.{AreInjecting, HasPlaces, entries_of, entry_at, marks_at}
-use Rattle.aeth_components.specs.Injecting.{may_send, table_at}
-use Rattle.aeth_components.specs.View.{queue_in}
-use Rattle.aeth_components.specs.declared.injecting.Injecting.{Injecting}
-use Rattle.aeth_components.specs.Making.{new_parts}
-use Rattle.aeth_components.specs.declared.making.RouterKind.TheVariants.{ByHeader}
+use Rattle.aeth_components.specs.{Changes.on_interface, Components.part_count, Ends.is_interface}
+use Rattle.aeth_components.specs.{Frames.frame_of, Injecting.AreInjecting, Injecting.HasPlaces}
+use Rattle.aeth_components.specs.{Injecting.entries_of, Injecting.entry_at, Injecting.marks_at}
+use Rattle.aeth_components.specs.{Injecting.may_send, Injecting.table_at, View.queue_in}
+use Rattle.aeth_components.specs.{declared.injecting.Injecting.Injecting, Making.new_parts}
+use Rattle.aeth_components.specs.{declared.making.RouterKind.TheVariants.ByHeader}
 use Rattle.aeth_components.proofs.CycleLemmas.{views-slice_set}
 use Rattle.aeth_components.proofs.FrameLemmas.{from-map}
 use Rattle.aeth_components.proofs.InjectingLemmas.{entry-within, entry_at-parts, table_at-parts}
-use Rattle.aeth_components.proofs.MadeLemmas.{Made, IsInterface, IsRouter, IsStage, length-new_parts}
-use Rattle.aeth_components.proofs.MadeLemmas.{part-at}
+use Rattle.aeth_components.proofs.MadeLemmas.{Made, IsInterface, IsRouter, IsStage}
+use Rattle.aeth_components.proofs.MadeLemmas.{length-new_parts, part-at}
 
 -- A change of a queue changes no table.
 pub entries-changed : (queue : ℕ) (change : QueueState → QueueState) (part : Part)

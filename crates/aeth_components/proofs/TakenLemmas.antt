@@ -1,15 +1,12 @@
 -- Laws of the wires up to one, and of the next one that has a flit.
-use Rattle.std.proofs.Common.{ℕ, zero, suc, ◌≡◌, ◌≢◌, ◌+◌, ◌≤◌, ◌<◌, refl, sym, ap, ◌∙◌, arith}
-use Rattle.std.proofs.Common.{inl, inr, List, [], ◌∷◌, get_or, length, set, take}
-use Rattle.std.proofs.Common.{Option, Some, None, is_some}
-use Rattle.std.proofs.lemmas.Bool.{cases_lt}
-use Rattle.std.proofs.lemmas.List.{set_past, take_all}
+use Rattle.std.proofs.Common.{ℕ, zero, suc, ◌≡◌, ◌≢◌, ◌+◌, ◌≤◌, ◌<◌, refl, sym, ap, ◌∙◌, arith, inl}
+use Rattle.std.proofs.Common.{inr, List, [], ◌∷◌, get_or, length, set, take, Option, Some, None}
+use Rattle.std.proofs.Common.{is_some, take_all}
+use Rattle.std.proofs.lemmas.{Bool.cases_lt, List.set_past}
 use Rattle.aeth_base.proofs.Lists.{count_by-yes}
 use Rattle.aeth_clocked.proofs.UsedLemmas.{NextUsed, flit-within, used-end}
-use Rattle.aeth_clocked.specs.Wires.{flit_on, used_from}
-use Rattle.aeth_clocked.specs.declared.flit.Flit.{Flit}
-use Rattle.aeth_components.specs.Counting.{flits_counted}
-use Rattle.aeth_components.specs.Turns.{flits_on}
+use Rattle.aeth_clocked.specs.{Wires.flit_on, Wires.used_from, declared.flit.Flit.Flit}
+use Rattle.aeth_components.specs.{Counting.flits_counted, Turns.flits_on}
 use Rattle.aeth_components.proofs.CountingLemmas.{flits_counted-found, flits_counted-until}
 use Rattle.aeth_components.proofs.CountingLemmas.{flits_counted-whole, length-flits_counted}
 use Rattle.aeth_components.proofs.FrameLemmas.{none-unless}

@@ -1,15 +1,12 @@
 -- What is counted of the channels at one interface depends on that interface alone.
 use Rattle.std.proofs.Common.{ℕ, ◌≡◌, ◌+◌, ◌-◌, ◌==◌, ◌∙◌, refl, sym, ap, inl, inr, List, fold, map}
-use Rattle.std.proofs.Common.{Option, slice_get}
+use Rattle.std.proofs.Common.{Option, slice_get, if◌then◌else◌, min, eqb-true}
+use Rattle.std.proofs.lemmas.Bool.{cases_Bool}
 use Rattle.std.specs.Option.{option_map_or}
-use Rattle.std.specs.Prelude.{if◌then◌else◌, min}
-use Rattle.std.proofs.lemmas.Bool.{cases_Bool, eqb-true}
 use Rattle.aeth_router.specs.declared.part.Part.{Part}
-use Rattle.aeth_components.specs.declared.lane.Lane.{Lane}
-use Rattle.aeth_components.specs.Counting.{brings, counted, counted_among, noted_among}
-use Rattle.aeth_components.specs.Counting.{written_over}
-use Rattle.aeth_components.specs.Lanes.{is_open}
-use Rattle.aeth_components.specs.Queues.{brought_by}
+use Rattle.aeth_components.specs.{declared.lane.Lane.Lane, Counting.brings, Counting.counted}
+use Rattle.aeth_components.specs.{Counting.counted_among, Counting.noted_among}
+use Rattle.aeth_components.specs.{Counting.written_over, Lanes.is_open, Queues.brought_by}
 use Rattle.aeth_components.proofs.MapLemmas.{fold-agree, map-agree}
 
 module _ (cycle : ℕ) (parts other : List Part) (number : ℕ)

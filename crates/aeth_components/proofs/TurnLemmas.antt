@@ -1,33 +1,23 @@
 -- Laws of the turns of lanes.
-use Rattle.std.proofs.Common.{ℕ, ◌≡◌, ◌≤◌, ◌+◌, ◌-◌, refl, sym, ◌∙◌, ap, subst}
-use Rattle.std.proofs.Common.{arith, inl, inr, true, false, map, drop}
-use Rattle.std.specs.Option.{option_map_or}
-use Rattle.std.proofs.lemmas.Bool.{cases_Bool}
-use Rattle.aeth_components.specs.declared.lane.ChannelEnd.{ChannelEnd}
-use Rattle.aeth_router.specs.declared.part.Part.TheVariants.{Interface, Router, Stage, TableRouter}
-use Rattle.std.proofs.Common.{List, [], ◌∷◌, ◌++◌, length, fold, Option, Some, None}
-use Rattle.std.proofs.Common.{slice_get, take}
-use Rattle.std.specs.List.{All}
-use Rattle.std.proofs.lemmas.List.{length-take}
-use Rattle.std.proofs.lemmas.List.Elements.{All-set}
-use Rattle.std.proofs.lemmas.Option.{get_or_from_slice_get, slice_get_within}
+use Rattle.std.proofs.Common.{ℕ, ◌≡◌, ◌≤◌, ◌+◌, ◌-◌, refl, sym, ◌∙◌, ap, subst, arith, inl, inr}
+use Rattle.std.proofs.Common.{true, false, map, drop, List, [], ◌∷◌, ◌++◌, length, fold, Option}
+use Rattle.std.proofs.Common.{Some, None, slice_get, take, length-take, append-nil, ap₂}
+use Rattle.std.proofs.lemmas.{Bool.cases_Bool, List.Elements.All-set, Option.get_or_from_slice_get}
+use Rattle.std.proofs.lemmas.{Option.slice_get_within}
+use Rattle.std.specs.{Option.option_map_or, List.All}
+use Rattle.aeth_components.specs.{declared.lane.ChannelEnd.ChannelEnd, declared.lane.Lane.Lane}
+use Rattle.aeth_components.specs.{Busy.TakesNothing, Changes.at_end, Changes.on_interface}
+use Rattle.aeth_components.specs.{Changes.told_at, Changes.told_by, Frames.frame_of, Lanes.IsLane}
+use Rattle.aeth_components.specs.{Lanes.is_open, Phases.Moment, Phases.asked_of, Phases.drawn_out}
+use Rattle.aeth_components.specs.{Phases.handed_on, Phases.left_of, Phases.pulled, Phases.refilled}
+use Rattle.aeth_components.specs.{Phases.turned, Phases.turned_at, Queues.drawn, Queues.draws}
+use Rattle.aeth_components.specs.{Queues.filled, Queues.fits}
+use Rattle.aeth_components.proofs.{FrameLemmas.frame_of-changed, PartLemmas.views-with_part}
+use Rattle.aeth_components.proofs.{PartLemmas.with_part-same, QueueLemmas.changed-same}
 use Rattle.aeth_router.specs.declared.part.Part.{Part}
-use Rattle.aeth_components.specs.declared.lane.Lane.{Lane}
-use Rattle.std.proofs.lemmas.List.{append-nil}
-use Rattle.std.proofs.Common.{ap₂}
-use Rattle.aeth_components.proofs.FrameLemmas.{frame_of-changed}
-use Rattle.aeth_components.proofs.PartLemmas.{views-with_part, with_part-same}
-use Rattle.aeth_components.proofs.QueueLemmas.{changed-same}
-use Rattle.aeth_components.specs.Busy.{TakesNothing}
-use Rattle.aeth_components.specs.Changes.{at_end, on_interface, told_at, told_by}
-use Rattle.aeth_components.specs.Frames.{frame_of}
-use Rattle.aeth_components.specs.Lanes.{IsLane, is_open}
-use Rattle.aeth_components.specs.Phases.{Moment, asked_of, drawn_out, handed_on, left_of, pulled}
-use Rattle.aeth_components.specs.Phases.{refilled, turned, turned_at}
-use Rattle.aeth_components.specs.Queues.{drawn, draws, filled, fits}
-use Rattle.aeth_ni.specs.Interface.{InterfaceState, changed, queue_at}
-use Rattle.aeth_ni.specs.Limits.{waiting_words}
-use Rattle.aeth_ni.specs.Queue.{QueueState}
+use Rattle.aeth_router.specs.declared.part.Part.TheVariants.{Interface, Router, Stage, TableRouter}
+use Rattle.aeth_ni.specs.{Interface.InterfaceState, Interface.changed, Interface.queue_at}
+use Rattle.aeth_ni.specs.{Limits.waiting_words, Queue.QueueState}
 
 module _ (turn : List Part → Lane → List Part × Lane) where
   -- What each turn keeps of its lane, all turns keep of all lanes.

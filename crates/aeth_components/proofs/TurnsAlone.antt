@@ -1,23 +1,20 @@
 -- Where no two active lanes share a queue, what each does in its turn it does alone: to its own
 -- queue as it was before all turns, whatever the others do.
 use Rattle.std.proofs.Common.{ℕ, zero, suc, ◌≡◌, ◌≢◌, ◌<◌, ◌≤◌, ◌+◌, refl, sym, ◌∙◌, ap, subst}
-use Rattle.std.proofs.Common.{arith, inl, inr, Bool, true, false, map, fold}
-use Rattle.std.proofs.Common.{List, [], ◌∷◌, Option, Some, None, slice_get}
-use Rattle.std.specs.Prelude.{◌⊎◌}
-use Rattle.std.specs.List.{range_with_len, slice_set}
+use Rattle.std.proofs.Common.{arith, inl, inr, Bool, true, false, map, fold, List, [], ◌∷◌, Option}
+use Rattle.std.proofs.Common.{Some, None, slice_get, ◌⊎◌}
 use Rattle.std.proofs.lemmas.Bool.{cases_Bool, cases_eq}
 use Rattle.std.proofs.lemmas.Option.{same_Some, slice_get_within}
+use Rattle.std.specs.List.{range_with_len, slice_set}
 use Rattle.aeth_base.proofs.Lists.{slice_get-slice_set_same, slice_get-slice_set_other}
 use Rattle.aeth_router.specs.declared.part.Part.{Part}
-use Rattle.aeth_components.specs.declared.lane.ChannelEnd.{ChannelEnd}
-use Rattle.aeth_components.specs.declared.lane.Lane.{Lane}
+use Rattle.aeth_components.specs.{declared.lane.ChannelEnd.ChannelEnd, declared.lane.Lane.Lane}
+use Rattle.aeth_components.specs.{Alone.Acts, Alone.Done, Alone.IsAlone, Alone.IsAt, Alone.Stays}
+use Rattle.aeth_components.specs.{Changes.at_end, Changes.told_at, Frames.Frame, Frames.frame_of}
+use Rattle.aeth_components.specs.{Phases.Moment, Phases.turned, Phases.turned_at, Phases.turned_by}
+use Rattle.aeth_components.specs.{View.HasQueue, View.queue_of}
 use Rattle.aeth_components.proofs.AloneLemmas.{queue_of-at_end_other, queue_of-at_end_same}
 use Rattle.aeth_components.proofs.AloneLemmas.{told_at-queue_of}
-use Rattle.aeth_components.specs.Alone.{Acts, Done, IsAlone, IsAt, Stays}
-use Rattle.aeth_components.specs.Changes.{at_end, told_at}
-use Rattle.aeth_components.specs.Frames.{Frame, frame_of}
-use Rattle.aeth_components.specs.Phases.{Moment, turned, turned_at, turned_by}
-use Rattle.aeth_components.specs.View.{HasQueue, queue_of}
 use Rattle.aeth_ni.specs.Queue.{QueueState}
 
 module _ {turn : List Part → Lane → List Part × Lane} {active : Lane → Bool}

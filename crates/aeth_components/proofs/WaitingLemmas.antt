@@ -1,31 +1,25 @@
 -- Laws of the channels that hand words on, and of those that wait for room.
-use Rattle.std.proofs.Common.{ℕ, ◌≡◌, ◌≢◌, ◌<◌, ◌∙◌, refl, sym, ap, ap₂, subst}
-use Rattle.std.proofs.Common.{arith, inl, inr, true, map, List, [], ◌∷◌, length, set}
-use Rattle.std.proofs.Common.{Option, Some, None, fold, slice_get}
-use Rattle.std.specs.Prelude.{◌⊎◌}
-use Rattle.std.specs.List.{All, range_with_len}
-use Rattle.std.specs.Option.{option_map}
+use Rattle.std.proofs.Common.{ℕ, ◌≡◌, ◌≢◌, ◌<◌, ◌∙◌, refl, sym, ap, ap₂, subst, arith, inl, inr}
+use Rattle.std.proofs.Common.{true, map, List, [], ◌∷◌, length, set, Option, Some, None, fold}
+use Rattle.std.proofs.Common.{slice_get, ◌⊎◌, length-set}
 use Rattle.std.proofs.Math.Seq.{map-set_same}
-use Rattle.std.proofs.lemmas.Bool.{cases_Bool, cases_eq, cases_lt}
-use Rattle.std.proofs.lemmas.List.{length-map, length-set}
-use Rattle.std.proofs.lemmas.Option.{get_or_from_slice_get, same_Some, slice_get-map, slice_get_within}
-use Rattle.aeth_base.proofs.Lists.{map-slice_get, slice_get-slice_set_other, slice_get-slice_set_same}
+use Rattle.std.proofs.lemmas.{Bool.cases_Bool, Bool.cases_eq, Bool.cases_lt, List.length-map}
+use Rattle.std.proofs.lemmas.{Option.get_or_from_slice_get, Option.same_Some, Option.slice_get-map}
+use Rattle.std.proofs.lemmas.{Option.slice_get_within}
+use Rattle.std.specs.{List.All, List.range_with_len, Option.option_map}
+use Rattle.aeth_base.proofs.Lists.{map-slice_get, slice_get-slice_set_other}
+use Rattle.aeth_base.proofs.Lists.{slice_get-slice_set_same}
 use Rattle.aeth_base.specs.Marks.{bit_of, room_of}
 use Rattle.aeth_clocked.specs.declared.flit.Flit.{Flit}
 use Rattle.aeth_router.specs.declared.part.Part.{Part}
-use Rattle.aeth_components.specs.declared.lane.ChannelEnd.{ChannelEnd}
-use Rattle.aeth_components.specs.declared.lane.Lane.{Lane}
-use Rattle.aeth_components.specs.declared.handing.Handing.{Handing}
-use Rattle.aeth_components.proofs.FullLemmas.{IsFull-refilled}
-use Rattle.aeth_components.proofs.RoomLemmas.{IsFull-landed}
-use Rattle.aeth_components.specs.Busy.{HandsNothing}
-use Rattle.aeth_components.specs.Counting.{counted}
-use Rattle.aeth_components.specs.Lanes.{is_open}
-use Rattle.aeth_components.specs.Phases.{Moment, in_turn, pulled, refilled}
-use Rattle.aeth_components.specs.Phases.{turned, turned_at}
-use Rattle.aeth_components.specs.Handing.{AreHanding, IsFull, IsResting, IsWaiting, Settles}
-use Rattle.aeth_components.specs.Handing.{Wakes}
-use Rattle.aeth_components.specs.Seen.{flits_landed}
+use Rattle.aeth_components.specs.{declared.lane.ChannelEnd.ChannelEnd, declared.lane.Lane.Lane}
+use Rattle.aeth_components.specs.{declared.handing.Handing.Handing, Busy.HandsNothing}
+use Rattle.aeth_components.specs.{Counting.counted, Lanes.is_open, Phases.Moment, Phases.in_turn}
+use Rattle.aeth_components.specs.{Phases.pulled, Phases.refilled, Phases.turned, Phases.turned_at}
+use Rattle.aeth_components.specs.{Handing.AreHanding, Handing.IsFull, Handing.IsResting}
+use Rattle.aeth_components.specs.{Handing.IsWaiting, Handing.Settles, Handing.Wakes}
+use Rattle.aeth_components.specs.{Seen.flits_landed}
+use Rattle.aeth_components.proofs.{FullLemmas.IsFull-refilled, RoomLemmas.IsFull-landed}
 
 -- The channels stay so where interfaces with room wake theirs, and all other queues stay full.
 pub AreHanding-woken : (Is : ℕ → Type 0) (parts now : List Part) (lanes : List Lane)

@@ -1,22 +1,16 @@
 -- Laws of marks by which channels that wait are woken.
-use Rattle.std.proofs.Common.{ℕ, ◌≡◌, ◌≢◌, ◌≤◌, ◌<◌, ◌+◌, ◌∙◌, ◌||◌, refl, sym, ap, subst}
-use Rattle.std.proofs.Common.{arith, inl, inr, Bool, true, false, List, [], ◌∷◌, length, get_or, take}
-use Rattle.std.proofs.Common.{Some, slice_get, set}
-use Rattle.std.specs.Prelude.{◌==◌, ◌⊎◌}
+use Rattle.std.proofs.Common.{ℕ, ◌≡◌, ◌≢◌, ◌≤◌, ◌<◌, ◌+◌, ◌∙◌, ◌||◌, refl, sym, ap, subst, arith}
+use Rattle.std.proofs.Common.{inl, inr, Bool, true, false, List, [], ◌∷◌, length, get_or, take}
+use Rattle.std.proofs.Common.{Some, slice_get, set, ◌==◌, ◌⊎◌, ne_eqb, length-set}
+use Rattle.std.proofs.lemmas.{Bool.cases_Bool, Bool.cases_eq, Bool.cases_lt, List.take_more}
+use Rattle.std.proofs.lemmas.{List.Elements.All-set, List.Folds.list_any-append, Option.same_Some}
 use Rattle.std.specs.List.{All, list_any}
-use Rattle.std.proofs.lemmas.Bool.{cases_Bool, cases_eq, cases_lt, ne_eqb}
-use Rattle.std.proofs.lemmas.List.{length-set, take_more}
-use Rattle.std.proofs.lemmas.List.Elements.{All-set}
-use Rattle.std.proofs.lemmas.List.Folds.{list_any-append}
-use Rattle.std.proofs.lemmas.Option.{same_Some}
 use Rattle.aeth_base.proofs.Lists.{slice_get-slice_set_other, slice_get-slice_set_same}
 use Rattle.aeth_base.specs.Marks.{bit_of, room_of}
-use Rattle.aeth_components.specs.declared.lane.ChannelEnd.{ChannelEnd}
-use Rattle.aeth_components.specs.declared.lane.Lane.{Lane}
-use Rattle.aeth_components.specs.declared.handing.Handing.{Handing}
-use Rattle.aeth_components.specs.Homes.{home_at, home_count}
-use Rattle.aeth_components.specs.Lanes.{is_open}
-use Rattle.aeth_components.specs.Handing.{HasWaitingPlaces, Settles, Wakes}
+use Rattle.aeth_components.specs.{declared.lane.ChannelEnd.ChannelEnd, declared.lane.Lane.Lane}
+use Rattle.aeth_components.specs.{declared.handing.Handing.Handing, Homes.home_at, Homes.home_count}
+use Rattle.aeth_components.specs.{Lanes.is_open, Handing.HasWaitingPlaces, Handing.Settles}
+use Rattle.aeth_components.specs.{Handing.Wakes}
 
 -- From a first place on, up to another, who waited is marked. All else is as it was.
 pub record AreWoken (first to : ℕ) (old new : Handing) : Type 0 where

@@ -1,13 +1,12 @@
 -- Laws of the walk over interfaces: of the channels that receive at those so far, and at one more.
 use Rattle.std.proofs.Common.{ℕ, zero, suc, ◌≡◌, ◌≢◌, ◌+◌, ◌==◌, ◌⊎◌, ◌∙◌, refl, sym, ap, inl, inr}
-use Rattle.std.proofs.Common.{Bool, true, false, List, [], ◌∷◌, fold, length, map, set}
-use Rattle.std.proofs.lemmas.Bool.{cases_Bool, cases_eq, eq-eqb, eqb-true, false_from_ne_true}
+use Rattle.std.proofs.Common.{Bool, true, false, List, [], ◌∷◌, fold, length, map, set, eq-eqb}
+use Rattle.std.proofs.Common.{eqb-true}
+use Rattle.std.proofs.lemmas.Bool.{cases_Bool, cases_eq, false_from_ne_true}
 use Rattle.aeth_router.specs.declared.part.Part.{Part}
-use Rattle.aeth_components.specs.declared.lane.ChannelEnd.{ChannelEnd}
-use Rattle.aeth_components.specs.declared.lane.Lane.{Lane}
-use Rattle.aeth_components.specs.Counting.{brings, counted, counted_among, noted_among}
-use Rattle.aeth_components.specs.Counting.{written_over}
-use Rattle.aeth_components.specs.Lanes.{is_open}
+use Rattle.aeth_components.specs.{declared.lane.ChannelEnd.ChannelEnd, declared.lane.Lane.Lane}
+use Rattle.aeth_components.specs.{Counting.brings, Counting.counted, Counting.counted_among}
+use Rattle.aeth_components.specs.{Counting.noted_among, Counting.written_over, Lanes.is_open}
 use Rattle.aeth_components.proofs.AmongLemmas.{stays}
 use Rattle.aeth_components.proofs.CountingLemmas.{length-written_over, noted-closed, noted-open}
 use Rattle.aeth_components.proofs.HomeLemmas.{StaysAtHome-counted}

@@ -1,9 +1,7 @@
 -- What components pass on of flits in every cycle alike.
-use Rattle.std.proofs.Common.{ℕ, ◌≡◌, refl, true, false}
-use Rattle.std.proofs.Common.{List, Option, Some, None, map, slice_get}
+use Rattle.std.proofs.Common.{ℕ, ◌≡◌, refl, true, false, List, Option, Some, None, map, slice_get}
 use Rattle.aeth_base.proofs.Lists.{map-at}
-use Rattle.aeth_clocked.specs.Wires.{flit_on}
-use Rattle.aeth_clocked.specs.declared.flit.Flit.{Flit}
+use Rattle.aeth_clocked.specs.{Wires.flit_on, declared.flit.Flit.Flit}
 use Rattle.aeth_router.proofs.PassingLemmas.{passed-empty}
 use Rattle.aeth_router.specs.Passing.{forwarded, has_table, passed}
 use Rattle.aeth_router.specs.declared.part.Part.{Part}

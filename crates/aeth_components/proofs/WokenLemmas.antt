@@ -1,33 +1,29 @@
 -- What keeps each interface marked in the slots in which it may send: a queue is woken once it has changed.
-use Rattle.std.proofs.Common.{ℕ, ◌≡◌, ◌≢◌, ◌<◌, ◌%◌, ◌∙◌, refl, sym, ap, arith, inl, inr}
-use Rattle.std.proofs.Common.{List, [], false, length, map, Option, Some, None, slice_get, true}
-use Rattle.std.proofs.Common.{get_or, is_some, length-set, set}
-use Rattle.std.specs.Prelude.{◌⊎◌, option_map}
+use Rattle.std.proofs.Common.{ℕ, ◌≡◌, ◌≢◌, ◌<◌, ◌%◌, ◌∙◌, refl, sym, ap, arith, inl, inr, List, []}
+use Rattle.std.proofs.Common.{false, length, map, Option, Some, None, slice_get, true, get_or}
+use Rattle.std.proofs.Common.{is_some, length-set, set, ◌⊎◌, option_map, get_or-set_other}
+use Rattle.std.proofs.Common.{get_or-set_same}
+use Rattle.std.proofs.lemmas.{Bool.cases_eq, List.get_or_default, List.length-map, Option.same_Some}
+use Rattle.std.proofs.lemmas.{Option.slice_get-get_or, Option.slice_get_within}
 use Rattle.std.specs.List.{slice_index_or}
-use Rattle.std.proofs.lemmas.Bool.{cases_eq}
-use Rattle.std.proofs.lemmas.List.{get_or-set_other, get_or-set_same, get_or_default, length-map}
-use Rattle.std.proofs.lemmas.Option.{same_Some, slice_get-get_or, slice_get_within}
 use Rattle.aeth_base.proofs.Lists.{map-at, slice_get-slice_set_other, slice_get-slice_set_same}
 use Rattle.aeth_base.specs.Marks.{bit_of, room_of}
 use Rattle.aeth_clocked.specs.declared.flit.Flit.{Flit}
-use Rattle.aeth_ni.specs.Component.{Arrival, absorbed, arrival_of, emitted_by, flit_sent_by, last_of}
-use Rattle.aeth_ni.specs.Component.{queue_at_cycle}
-use Rattle.aeth_ni.specs.Interface.{InterfaceState, queue_at}
-use Rattle.aeth_ni.specs.Queue.{QueueState, empty_queue}
-use Rattle.aeth_ni.specs.Sending.{emitted}
+use Rattle.aeth_ni.specs.{Component.Arrival, Component.absorbed, Component.arrival_of}
+use Rattle.aeth_ni.specs.{Component.emitted_by, Component.flit_sent_by, Component.last_of}
+use Rattle.aeth_ni.specs.{Component.queue_at_cycle, Interface.InterfaceState, Interface.queue_at}
+use Rattle.aeth_ni.specs.{Queue.QueueState, Queue.empty_queue, Sending.emitted}
 use Rattle.aeth_router.specs.Part.{after_of}
 use Rattle.aeth_router.specs.declared.part.Part.{Part}
 use Rattle.aeth_router.specs.declared.part.Part.TheVariants.{Interface, Router, Stage, TableRouter}
-use Rattle.aeth_components.specs.declared.injecting.Injecting.{Injecting}
-use Rattle.aeth_components.specs.declared.lane.ChannelEnd.{ChannelEnd}
-use Rattle.aeth_components.specs.Changes.{at_end, on_interface, with_part}
-use Rattle.aeth_components.specs.Injecting.{AreInjecting, MarksMore}
-use Rattle.aeth_components.specs.Injecting.{WakesQueue, WakesTold, entries_of, marks_at, may_send}
-use Rattle.aeth_components.specs.Injecting.{place_of_entry, queue_told}
-use Rattle.aeth_components.specs.Seen.{landed}
-use Rattle.aeth_components.specs.Switching.{entry_in, entry_of}
-use Rattle.aeth_components.specs.Turns.{sends_own}
-use Rattle.aeth_components.specs.View.{queue_in, queue_of}
+use Rattle.aeth_components.specs.{declared.injecting.Injecting.Injecting}
+use Rattle.aeth_components.specs.{declared.lane.ChannelEnd.ChannelEnd, Changes.at_end}
+use Rattle.aeth_components.specs.{Changes.on_interface, Changes.with_part, Injecting.AreInjecting}
+use Rattle.aeth_components.specs.{Injecting.MarksMore, Injecting.WakesQueue, Injecting.WakesTold}
+use Rattle.aeth_components.specs.{Injecting.entries_of, Injecting.marks_at, Injecting.may_send}
+use Rattle.aeth_components.specs.{Injecting.place_of_entry, Injecting.queue_told, Seen.landed}
+use Rattle.aeth_components.specs.{Switching.entry_in, Switching.entry_of, Turns.sends_own}
+use Rattle.aeth_components.specs.{View.queue_in, View.queue_of}
 use Rattle.aeth_components.proofs.AloneLemmas.{queue_of-at_end_other, slice_get-with_part_other}
 use Rattle.aeth_components.proofs.AloneLemmas.{slice_get-with_part_same}
 use Rattle.aeth_components.proofs.InjectingLemmas.{HasPlaces-moved, entry-below, entry-noted}

@@ -4,7 +4,7 @@
 --   TakesRows      those of the rows that are a router's are in range
 --
 -- Tables in routers: this project's own.
-use Rattle.std.specs.Prelude.{List, map}
+use Rattle.std.proofs.Common.{List, map}
 use Rattle.aeth_router.specs.Rows.{AreRowsFor, with_table}
 use Rattle.aeth_router.specs.declared.part.Part.{Part}
 use Rattle.aeth_router.specs.declared.part.Part.TheVariants.{Interface, Router, Stage, TableRouter}

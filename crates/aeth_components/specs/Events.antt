@@ -1,14 +1,14 @@
 -- The events of a cycle, and what each needs.
 -- This project's own.
-use Rattle.std.specs.Prelude.{◌≡◌, ◌<◌, ℕ, List, length, IfSome, slice_get}
+use Rattle.std.proofs.Common.{◌≡◌, ◌<◌, ℕ, List, length, IfSome, slice_get}
 use Rattle.aeth_ni.specs.declared.write.Write.{Write}
 use Rattle.aeth_ni.specs.declared.write.Write.TheVariants.{ClearSlot, ClearRoute, SetRoute, SetSlot}
-use Rattle.aeth_components.specs.declared.event.Event.{Event}
-use Rattle.aeth_components.specs.declared.event.Event.TheVariants.{Halt, Finish, Change}
-use Rattle.aeth_components.specs.Frames.{Frame, InterfaceFrame, RouterFrame, StageFrame}
 use Rattle.aeth_ni.specs.Limits.{queues_of_interface}
 use Rattle.aeth_ni.specs.Queue.{IsRoute}
 use Rattle.aeth_ni.specs.Writes.{addressee}
+use Rattle.aeth_components.specs.declared.event.Event.{Event}
+use Rattle.aeth_components.specs.declared.event.Event.TheVariants.{Halt, Finish, Change}
+use Rattle.aeth_components.specs.Frames.{Frame, InterfaceFrame, RouterFrame, StageFrame}
 
 -- The number of the component that an event is for.
 abbrev pub event_part : Event → ℕ

@@ -1,10 +1,9 @@
 -- What never changes of a component, and what holds of the frames of every network.
 -- This project's own.
-use Rattle.std.specs.Prelude.{◌≡◌, ◌<◌, ℕ, ◌==◌, Bool, ⊤, true, List, length, All, Some, slice_get}
-use Rattle.aeth_base.specs.declared.ids.LinkId.{LinkId}
-use Rattle.aeth_base.specs.declared.ids.NiId.{NiId}
-use Rattle.aeth_clocked.specs.Driven.{AreDisjoint}
-use Rattle.aeth_clocked.specs.Wires.{AreLinks}
+use Rattle.std.proofs.Common.{◌≡◌, ◌<◌, ℕ, ◌==◌, Bool, true, List, length, All, Some, slice_get}
+use Rattle.std.specs.Prelude.{⊤}
+use Rattle.aeth_base.specs.declared.ids.{LinkId.LinkId, NiId.NiId}
+use Rattle.aeth_clocked.specs.{Driven.AreDisjoint, Wires.AreLinks}
 use Rattle.aeth_router.specs.Router.{AreDistinctLinks, is_among}
 use Rattle.aeth_router.specs.declared.part.Part.{Part}
 use Rattle.aeth_router.specs.declared.part.Part.TheVariants.{Interface, Router, Stage, TableRouter}

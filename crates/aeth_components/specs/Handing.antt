@@ -10,21 +10,16 @@
 --   HasEvent                         an event is for an interface
 --
 -- This project's own.
-use Rattle.std.specs.Prelude.{◌≡◌, ◌≢◌, ◌<◌, ◌-◌, ◌==◌, ◌⊎◌, ℕ, All, List, Some, length, slice_get, true}
+use Rattle.std.proofs.Common.{◌≡◌, ◌≢◌, ◌<◌, ◌-◌, ◌==◌, ◌⊎◌, ℕ, All, List, Some, length, slice_get}
+use Rattle.std.proofs.Common.{true}
 use Rattle.std.specs.List.{list_any}
 use Rattle.aeth_base.specs.Marks.{bit_of, room_of}
-use Rattle.aeth_ni.specs.Limits.{waiting_words}
-use Rattle.aeth_ni.specs.Queue.{QueueState}
+use Rattle.aeth_ni.specs.{Limits.waiting_words, Queue.QueueState}
 use Rattle.aeth_router.specs.declared.part.Part.{Part}
-use Rattle.aeth_components.specs.Busy.{HandsNothing}
-use Rattle.aeth_components.specs.Changes.{told_at}
-use Rattle.aeth_components.specs.Events.{event_part}
-use Rattle.aeth_components.specs.Homes.{home_at, home_count}
-use Rattle.aeth_components.specs.Lanes.{is_open}
-use Rattle.aeth_components.specs.declared.event.Event.{Event}
-use Rattle.aeth_components.specs.declared.lane.ChannelEnd.{ChannelEnd}
-use Rattle.aeth_components.specs.declared.lane.Lane.{Lane}
-use Rattle.aeth_components.specs.declared.handing.Handing.{Handing}
+use Rattle.aeth_components.specs.{Busy.HandsNothing, Changes.told_at, Events.event_part}
+use Rattle.aeth_components.specs.{Homes.home_at, Homes.home_count, Lanes.is_open}
+use Rattle.aeth_components.specs.{declared.event.Event.Event, declared.lane.ChannelEnd.ChannelEnd}
+use Rattle.aeth_components.specs.{declared.lane.Lane.Lane, declared.handing.Handing.Handing}
 
 -- How many words more may wait in a source queue.
 abbrev pub room_left : QueueState → ℕ

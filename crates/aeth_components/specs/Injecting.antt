@@ -10,20 +10,17 @@
 --   MarksMore, WakesQueue, queue_told, WakesTold, NotesEvent     what wakes a queue, and what an event changes of the marks
 --
 -- This project's own.
-use Rattle.std.specs.Prelude.{◌≡◌, ◌<◌, ◌≤◌, ◌+◌, ◌*◌, ◌%◌, ◌^◌, ◌⊎◌, ℕ, List, [], length, All, Bool, Option, Some, None}
-use Rattle.std.specs.Prelude.{is_some, map, option_map, true}
+use Rattle.std.proofs.Common.{◌≡◌, ◌<◌, ◌≤◌, ◌+◌, ◌*◌, ◌%◌, ◌^◌, ◌⊎◌, ℕ, List, [], length, All}
+use Rattle.std.proofs.Common.{Bool, Option, Some, None, is_some, map, option_map, true}
 use Rattle.std.specs.List.{slice_index_or}
-use Rattle.aeth_base.specs.Limits.{max_slots}
-use Rattle.aeth_base.specs.Marks.{bit_of, room_of}
+use Rattle.aeth_base.specs.{Limits.max_slots, Marks.bit_of, Marks.room_of}
 use Rattle.aeth_clocked.specs.declared.flit.Flit.{Flit}
-use Rattle.aeth_ni.specs.Component.{arrival_of, last_of}
-use Rattle.aeth_ni.specs.Limits.{queues_of_interface}
-use Rattle.aeth_ni.specs.Sending.{emitted}
+use Rattle.aeth_ni.specs.{Component.arrival_of, Component.last_of, Limits.queues_of_interface}
+use Rattle.aeth_ni.specs.{Sending.emitted}
 use Rattle.aeth_router.specs.declared.part.Part.{Part}
 use Rattle.aeth_router.specs.declared.part.Part.TheVariants.{Interface, Router, Stage, TableRouter}
-use Rattle.aeth_components.specs.declared.event.Event.{Event}
-use Rattle.aeth_components.specs.declared.injecting.Injecting.{Injecting}
-use Rattle.aeth_components.specs.declared.lane.ChannelEnd.{ChannelEnd}
+use Rattle.aeth_components.specs.declared.{event.Event.Event, injecting.Injecting.Injecting}
+use Rattle.aeth_components.specs.declared.{lane.ChannelEnd.ChannelEnd}
 use Rattle.aeth_components.specs.Events.{event_part}
 use Rattle.aeth_components.specs.Switching.{SlotWrite, Writes, entry_of, event_end, slot_write}
 use Rattle.aeth_components.specs.View.{queue_of}

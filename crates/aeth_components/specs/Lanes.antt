@@ -1,9 +1,8 @@
 -- Channels, each with its session of the time.
 -- This project's own.
-use Rattle.std.specs.Prelude.{ℕ, zero, suc, ◌<◌, ◌≤◌, ◌+◌, ◌&&◌, nat_le, nat_lt, Bool, List}
-use Rattle.std.specs.Prelude.{[], ◌∷◌}
-use Rattle.aeth_components.specs.declared.lane.ChannelEnd.{ChannelEnd}
-use Rattle.aeth_components.specs.declared.lane.Lane.{Lane}
+use Rattle.std.proofs.Common.{ℕ, zero, suc, ◌<◌, ◌≤◌, ◌+◌, ◌&&◌, nat_le, nat_lt, Bool, List, []}
+use Rattle.std.proofs.Common.{◌∷◌}
+use Rattle.aeth_components.specs.declared.lane.{ChannelEnd.ChannelEnd, Lane.Lane}
 use Rattle.aeth_ni.specs.Limits.{queues_of_interface}
 
 -- Whether words of a channel are handed on and taken in a cycle.

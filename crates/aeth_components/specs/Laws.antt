@@ -1,16 +1,13 @@
 -- What refilling and taking do to a lane and its queue, where no two open lanes share one.
 -- This project's own.
-use Rattle.std.specs.Prelude.{◌≡◌, ◌+◌, ℕ, true, false, List, Some, map}
-use Rattle.std.specs.Prelude.{◌<◌, ◌≤◌, fold, length, slice_get}
+use Rattle.std.proofs.Common.{◌≡◌, ◌+◌, ℕ, true, false, List, Some, map, ◌<◌, ◌≤◌, fold, length}
+use Rattle.std.proofs.Common.{slice_get}
 use Rattle.aeth_router.specs.declared.part.Part.{Part}
-use Rattle.aeth_components.specs.declared.lane.Lane.{Lane}
-use Rattle.aeth_components.specs.Alone.{Done, IsAlone, Stays}
-use Rattle.aeth_components.specs.Counting.{brings, noted}
-use Rattle.aeth_components.specs.Frames.{frame_of}
-use Rattle.aeth_components.specs.Lanes.{is_open}
-use Rattle.aeth_components.specs.Phases.{Moment, asked_of, in_turn, left_of, pulled, refilled}
-use Rattle.aeth_components.specs.Queues.{drawn, draws, filled, fits}
-use Rattle.aeth_components.specs.View.{HasQueue}
+use Rattle.aeth_components.specs.{declared.lane.Lane.Lane, Alone.Done, Alone.IsAlone, Alone.Stays}
+use Rattle.aeth_components.specs.{Counting.brings, Counting.noted, Frames.frame_of, Lanes.is_open}
+use Rattle.aeth_components.specs.{Phases.Moment, Phases.asked_of, Phases.in_turn, Phases.left_of}
+use Rattle.aeth_components.specs.{Phases.pulled, Phases.refilled, Queues.drawn, Queues.draws}
+use Rattle.aeth_components.specs.{Queues.filled, Queues.fits, View.HasQueue}
 
 -- Refilling, of the words of all lanes in a cycle.
 pub record RefillsAlone (words : List ℕ) (cycle : ℕ) (moment : Moment) : Type 0 where

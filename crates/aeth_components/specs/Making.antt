@@ -1,14 +1,10 @@
 -- The components of a chip, before the first cycle.
 -- This project's own.
-use Rattle.std.specs.Prelude.{ℕ, ◌*◌, ◌+◌, ◌-◌, ◌++◌, List, length, map, slice_index, slice_range}
+use Rattle.std.proofs.Common.{ℕ, ◌*◌, ◌+◌, ◌-◌, ◌++◌, List, length, map, slice_index, slice_range}
 use Rattle.std.specs.List.{flat_map, range_with_len}
-use Rattle.aeth_chip.specs.Chip.{ChipData}
-use Rattle.aeth_chip.specs.Nodes.{receives_on, sends_on}
-use Rattle.aeth_chip.specs.Paths.{delay_of}
-use Rattle.aeth_chip.specs.Wires.{wire_at}
-use Rattle.aeth_chip.specs.declared.node.Link.{Link}
-use Rattle.aeth_chip.specs.declared.node.Node.{Node}
-use Rattle.aeth_chip.specs.declared.node.Node.TheVariants.{Ni}
+use Rattle.aeth_chip.specs.{Chip.ChipData, Nodes.receives_on, Nodes.sends_on, Paths.delay_of}
+use Rattle.aeth_chip.specs.{Wires.wire_at, declared.node.Link.Link, declared.node.Node.Node}
+use Rattle.aeth_chip.specs.{declared.node.Node.TheVariants.Ni}
 use Rattle.aeth_router.specs.Router.{last_wire, new_router}
 use Rattle.aeth_router.specs.Stage.{new_stage}
 use Rattle.aeth_router.specs.TableRouter.{new_table_router}
@@ -16,8 +12,7 @@ use Rattle.aeth_router.specs.declared.part.Part.{Part}
 use Rattle.aeth_router.specs.declared.part.Part.TheVariants.{Interface, Router, Stage, TableRouter}
 use Rattle.aeth_components.specs.declared.making.RouterKind.{RouterKind}
 use Rattle.aeth_components.specs.declared.making.RouterKind.TheVariants.{ByHeader, ByTable}
-use Rattle.aeth_ni.specs.Interface.{new_interface}
-use Rattle.aeth_ni.specs.Limits.{queues_of_interface}
+use Rattle.aeth_ni.specs.{Interface.new_interface, Limits.queues_of_interface}
 
 -- An interface, which sends on its one link and receives on the last wire of the other, where the
 -- rooms are listed by interfaces and queues.

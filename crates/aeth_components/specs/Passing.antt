@@ -11,9 +11,8 @@
 --   forwarded_from      what is sent on of what a wire has in every cycle alike
 --
 -- Components whose state is read off the wires: this project's own.
-use Rattle.std.specs.Prelude.{ℕ, Bool, List, Option, option_and_then, slice_get}
-use Rattle.aeth_clocked.specs.Wires.{flit_on}
-use Rattle.aeth_clocked.specs.declared.flit.Flit.{Flit}
+use Rattle.std.proofs.Common.{ℕ, Bool, List, Option, option_and_then, slice_get}
+use Rattle.aeth_clocked.specs.{Wires.flit_on, declared.flit.Flit.Flit}
 use Rattle.aeth_router.specs.Passing.{forwarded, has_table, passed}
 use Rattle.aeth_router.specs.declared.part.Part.{Part}
 

@@ -5,14 +5,13 @@
 --   Moment, turned, in_turn    the turns of all channels
 --
 -- This project's own.
-use Rattle.std.specs.Prelude.{ℕ, ◌+◌, ◌-◌, min, if◌then◌else◌, List, length, fold}
-use Rattle.std.specs.Prelude.{slice_get, slice_set, slice_range, Option, Some, None}
+use Rattle.std.proofs.Common.{ℕ, ◌+◌, ◌-◌, min, if◌then◌else◌, List, length, fold, slice_get}
+use Rattle.std.proofs.Common.{slice_set, slice_range, Option, Some, None}
 use Rattle.std.specs.List.{range_with_len}
 use Rattle.aeth_router.specs.declared.part.Part.{Part}
-use Rattle.aeth_components.specs.declared.lane.Lane.{Lane}
-use Rattle.aeth_components.specs.Changes.{at_end, told_at}
-use Rattle.aeth_components.specs.Lanes.{is_open}
-use Rattle.aeth_components.specs.Queues.{drawn, draws, filled, fits}
+use Rattle.aeth_components.specs.{declared.lane.Lane.Lane, Changes.at_end, Changes.told_at}
+use Rattle.aeth_components.specs.{Lanes.is_open, Queues.drawn, Queues.draws, Queues.filled}
+use Rattle.aeth_components.specs.{Queues.fits}
 
 -- The accepted words of a session that weren't handed on.
 abbrev pub left_of : List ℕ → Lane → List ℕ

@@ -5,12 +5,11 @@
 --   words_for, brought_by       the words that the last flit brought to a queue
 --
 -- This project's own.
-use Rattle.std.specs.Prelude.{ℕ, zero, suc, ◌-◌, min, ◌==◌, if◌then◌else◌}
-use Rattle.std.specs.Prelude.{List, ◌++◌, length, take, Option, Some, None}
+use Rattle.std.proofs.Common.{ℕ, zero, suc, ◌-◌, min, ◌==◌, if◌then◌else◌, List, ◌++◌, length, take}
+use Rattle.std.proofs.Common.{Option, Some, None}
 use Rattle.aeth_router.specs.declared.part.Part.{Part}
 use Rattle.aeth_router.specs.declared.part.Part.TheVariants.{Interface, Router, Stage, TableRouter}
-use Rattle.aeth_ni.specs.Limits.{waiting_words}
-use Rattle.aeth_ni.specs.Queue.{QueueState, word_taken}
+use Rattle.aeth_ni.specs.{Limits.waiting_words, Queue.QueueState, Queue.word_taken}
 
 -- The first of these words, until eight wait.
 abbrev pub fitting : QueueState → List ℕ → List ℕ

@@ -1,13 +1,10 @@
 -- What holds between cycles of what a cycle needs beside the components.
 -- This project's own.
-use Rattle.std.specs.Prelude.{◌≡◌, ◌<◌, ℕ, List, Option, All, false, length}
+use Rattle.std.proofs.Common.{◌≡◌, ◌<◌, ℕ, List, Option, All, false, length}
 use Rattle.aeth_clocked.specs.declared.flit.Flit.{Flit}
 use Rattle.aeth_router.specs.Onward.{CameFrom, arrival_at}
-use Rattle.aeth_components.specs.Ends.{AreEnds}
-use Rattle.aeth_components.specs.Frames.{Frame}
-use Rattle.aeth_components.specs.Passing.{Way, forwarded_from}
-use Rattle.aeth_components.specs.Turns.{flits_on}
-use Rattle.aeth_components.specs.declared.turns.Turns.{Turns}
+use Rattle.aeth_components.specs.{Ends.AreEnds, Frames.Frame, Passing.Way, Passing.forwarded_from}
+use Rattle.aeth_components.specs.{Turns.flits_on, declared.turns.Turns.Turns}
 
 -- The ends are those of the components. The flits on the wires are counted, and those that go on alike in every
 -- cycle have been passed on for the next one. Where no router is noted to have a table, none has.

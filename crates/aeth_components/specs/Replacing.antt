@@ -4,12 +4,10 @@
 --   without_held      the wires without the flits that a component holds
 --
 -- A reset of one component: this project's own.
-use Rattle.std.specs.Prelude.{if◌then◌else◌, List, [], Option, None, length, map}
+use Rattle.std.proofs.Common.{if◌then◌else◌, List, [], Option, None, length, map}
 use Rattle.std.specs.List.{range_with_len}
-use Rattle.aeth_clocked.specs.Wires.{flit_on}
-use Rattle.aeth_clocked.specs.declared.flit.Flit.{Flit}
-use Rattle.aeth_router.specs.Part.{inputs_of}
-use Rattle.aeth_router.specs.declared.part.Part.{Part}
+use Rattle.aeth_clocked.specs.{Wires.flit_on, declared.flit.Flit.Flit}
+use Rattle.aeth_router.specs.{Part.inputs_of, declared.part.Part.Part}
 use Rattle.aeth_components.specs.Seen.{seen}
 
 -- A component once it has latched wires that have nothing.

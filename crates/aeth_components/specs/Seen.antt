@@ -11,20 +11,17 @@
 --   taken_of      the components and channels up to where flits land
 --
 -- Components whose state is read off the wires: this project's own.
-use Rattle.std.specs.Prelude.{ℕ, List, Option, None, Some, map}
-use Rattle.aeth_clocked.specs.declared.flit.Flit.{Flit}
-use Rattle.aeth_clocked.specs.Wires.{flit_on}
-use Rattle.aeth_ni.specs.Component.{absorbed, arrival_of, interface_absorb, interface_after, last_of}
-use Rattle.aeth_ni.specs.Interface.{InterfaceState}
+use Rattle.std.proofs.Common.{ℕ, List, Option, None, Some, map}
+use Rattle.aeth_clocked.specs.{declared.flit.Flit.Flit, Wires.flit_on}
+use Rattle.aeth_ni.specs.{Component.absorbed, Component.arrival_of, Component.interface_absorb}
+use Rattle.aeth_ni.specs.{Component.interface_after, Component.last_of, Interface.InterfaceState}
 use Rattle.aeth_router.specs.Router.{router_absorb}
 use Rattle.aeth_router.specs.Stage.{stage_absorb}
 use Rattle.aeth_router.specs.TableRouter.{table_absorb}
 use Rattle.aeth_router.specs.declared.part.Part.{Part}
 use Rattle.aeth_router.specs.declared.part.Part.TheVariants.{Interface, Router, Stage, TableRouter}
-use Rattle.aeth_components.specs.declared.event.Event.{Event}
-use Rattle.aeth_components.specs.Changes.{on_interface}
-use Rattle.aeth_components.specs.Components.{ready_of}
-use Rattle.aeth_components.specs.Phases.{Moment, in_turn, pulled}
+use Rattle.aeth_components.specs.{declared.event.Event.Event, Changes.on_interface}
+use Rattle.aeth_components.specs.{Components.ready_of, Phases.Moment, Phases.in_turn, Phases.pulled}
 
 -- An interface tells of what these wires have where it receives; a router or a stage holds that.
 abbrev pub seen : List (Option Flit) → Part → Part

@@ -4,11 +4,9 @@
 --   Injects      what is on the wires then
 --
 -- This project's own.
-use Rattle.std.specs.Prelude.{◌≡◌, ℕ, List, Option, Some, false, length, slice_get, true}
-use Rattle.aeth_clocked.specs.Wires.{flit_on}
-use Rattle.aeth_clocked.specs.declared.flit.Flit.{Flit}
-use Rattle.aeth_router.specs.Part.{emit_of, outputs_of}
-use Rattle.aeth_router.specs.declared.part.Part.{Part}
+use Rattle.std.proofs.Common.{◌≡◌, ℕ, List, Option, Some, false, length, slice_get, true}
+use Rattle.aeth_clocked.specs.{Wires.flit_on, declared.flit.Flit.Flit}
+use Rattle.aeth_router.specs.{Part.emit_of, Part.outputs_of, declared.part.Part.Part}
 use Rattle.aeth_components.specs.Turns.{sends_own}
 
 -- The component of a number sends something of its own in a cycle.

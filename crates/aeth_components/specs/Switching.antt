@@ -6,20 +6,19 @@
 --   Writes, WritesAlone      an event writes a slot, and what all events do to its entry
 --
 -- This project's own.
-use Rattle.std.specs.Prelude.{◌≡◌, ℕ, List, Option, Some, None, map, slice_get}
+use Rattle.std.proofs.Common.{◌≡◌, ℕ, List, Option, Some, None, map, slice_get}
 use Rattle.std.specs.List.{slice_index_or}
 use Rattle.aeth_base.specs.declared.ids.NiId.{NiId}
 use Rattle.aeth_ni.specs.declared.write.Write.{Write}
 use Rattle.aeth_ni.specs.declared.write.Write.TheVariants.{ClearSlot, ClearRoute, SetRoute, SetSlot}
+use Rattle.aeth_ni.specs.Queue.{QueueState, finished, stopped, with_route, without_route}
 use Rattle.aeth_router.specs.declared.part.Part.{Part}
 use Rattle.aeth_router.specs.declared.part.Part.TheVariants.{Interface, Router, Stage, TableRouter}
-use Rattle.aeth_components.specs.declared.lane.ChannelEnd.{ChannelEnd}
-use Rattle.aeth_components.specs.declared.event.Event.{Event}
-use Rattle.aeth_components.specs.declared.event.Event.TheVariants.{Halt, Finish, Change}
-use Rattle.aeth_components.specs.Changes.{switched}
-use Rattle.aeth_components.specs.Frames.{frame_of}
-use Rattle.aeth_components.specs.View.{HasQueue, HasSlot, queue_of}
-use Rattle.aeth_ni.specs.Queue.{QueueState, finished, stopped, with_route, without_route}
+use Rattle.aeth_components.specs.{declared.lane.ChannelEnd.ChannelEnd, declared.event.Event.Event}
+use Rattle.aeth_components.specs.{declared.event.Event.TheVariants.Halt}
+use Rattle.aeth_components.specs.{declared.event.Event.TheVariants.Finish}
+use Rattle.aeth_components.specs.{declared.event.Event.TheVariants.Change, Changes.switched}
+use Rattle.aeth_components.specs.{Frames.frame_of, View.HasQueue, View.HasSlot, View.queue_of}
 
 -- The queue that an event changes, if it changes one.
 abbrev pub write_end : Write → Option ChannelEnd

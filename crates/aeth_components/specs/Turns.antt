@@ -4,8 +4,8 @@
 --   sends_own, AreSendersMarked      who sends something of its own in a cycle
 --
 -- This project's own.
-use Rattle.std.specs.Prelude.{◌≡◌, ℕ, List, Option, Some}
-use Rattle.std.specs.Prelude.{Bool, count_by, false, is_some, slice_get, true}
+use Rattle.std.proofs.Common.{◌≡◌, ℕ, List, Option, Some, Bool, count_by, false, is_some, slice_get}
+use Rattle.std.proofs.Common.{true}
 use Rattle.aeth_base.specs.Marks.{bit_of}
 use Rattle.aeth_clocked.specs.declared.flit.Flit.{Flit}
 use Rattle.aeth_ni.specs.Component.{emitted_by, queue_at_cycle}

@@ -1,14 +1,12 @@
 -- Components seen by their queues.
 -- This project's own.
-use Rattle.std.specs.Prelude.{◌≡◌, ◌<◌, ℕ, List, Option, Some, None, slice_get}
-use Rattle.aeth_base.specs.declared.ids.LinkId.{LinkId}
-use Rattle.aeth_base.specs.declared.ids.NiId.{NiId}
+use Rattle.std.proofs.Common.{◌≡◌, ◌<◌, ℕ, List, Option, Some, None, slice_get}
+use Rattle.aeth_base.specs.declared.ids.{LinkId.LinkId, NiId.NiId}
 use Rattle.aeth_router.specs.declared.part.Part.{Part}
 use Rattle.aeth_router.specs.declared.part.Part.TheVariants.{Interface, Router, Stage, TableRouter}
 use Rattle.aeth_components.specs.declared.lane.ChannelEnd.{ChannelEnd}
 use Rattle.aeth_components.specs.Frames.{Frame, InterfaceFrame}
-use Rattle.aeth_ni.specs.Interface.{queue_at}
-use Rattle.aeth_ni.specs.Queue.{QueueState, empty_queue}
+use Rattle.aeth_ni.specs.{Interface.queue_at, Queue.QueueState, Queue.empty_queue}
 
 -- One queue of a component; an empty one where there is none.
 abbrev pub queue_in : ℕ → Option Part → QueueState

@@ -5,7 +5,7 @@
 --   part_of, drawn      what a draw gives
 --   shift_of      how far the connections of a round lead
 -- This project's own.
-use Rattle.std.specs.Prelude.{ℕ, zero, suc, ◌+◌, ◌*◌, ◌/◌, ◌%◌}
+use Rattle.std.proofs.Common.{ℕ, zero, suc, ◌+◌, ◌*◌, ◌/◌, ◌%◌}
 
 -- The numbers of the generator are below this: they have 31 bits.
 abbrev pub generator_modulus : ℕ

@@ -1,6 +1,6 @@
 -- The numbers of the generated run.
 -- This project's own.
-use Rattle.std.specs.Prelude.{ℕ}
+use Rattle.std.proofs.Common.{ℕ}
 
 -- The number from which files are made is at most this.
 abbrev pub max_demo_number : ℕ

@@ -5,8 +5,8 @@
 --   interface_links, pair_links, router_links      the links of an interface, and of a router
 --   mesh_text      the chip file
 -- This project's own.
-use Rattle.std.specs.Prelude.{ℕ, ◌+◌, ◌-◌, ◌/◌, ◌%◌, ◌++◌, List, [], codes, decimal, nat_lt}
-use Rattle.std.specs.Prelude.{if◌then◌else◌}
+use Rattle.std.proofs.Common.{ℕ, ◌+◌, ◌-◌, ◌/◌, ◌%◌, ◌++◌, List, [], codes, decimal, nat_lt}
+use Rattle.std.proofs.Common.{if◌then◌else◌}
 use Rattle.aeth_demo.specs.Limits.{mesh_columns, mesh_routers}
 use Rattle.aeth_demo.specs.Pieces.{names_text, texts_below}
 

@@ -1,7 +1,6 @@
 -- Pieces of texts: numbered names, and lists of them.
 -- This project's own.
-use Rattle.std.specs.Prelude.{ℕ, ◌+◌, ◌++◌, ◌==◌, List, [], codes, decimal, flat_map}
-use Rattle.std.specs.Prelude.{if◌then◌else◌}
+use Rattle.std.proofs.Common.{ℕ, ◌+◌, ◌++◌, ◌==◌, List, [], codes, decimal, flat_map, if◌then◌else◌}
 use Rattle.std.specs.List.{range_with_len}
 
 -- The texts of the numbers below a count, one after the other.

@@ -6,10 +6,9 @@
 --   use_text, uses_text      the use cases
 --   streams_with, streams_text      the application file
 -- This project's own.
-use Rattle.std.specs.Prelude.{ℕ, ◌+◌, ◌*◌, ◌%◌, ◌++◌, List, codes, decimal}
-use Rattle.aeth_demo.specs.Draws.{shift_of}
-use Rattle.aeth_demo.specs.Limits.{mesh_routers}
-use Rattle.aeth_demo.specs.Pieces.{comma_before, names_text, texts_below}
+use Rattle.std.proofs.Common.{ℕ, ◌+◌, ◌*◌, ◌%◌, ◌++◌, List, codes, decimal}
+use Rattle.aeth_demo.specs.{Draws.shift_of, Limits.mesh_routers, Pieces.comma_before}
+use Rattle.aeth_demo.specs.{Pieces.names_text, Pieces.texts_below}
 
 -- Core k on interface k.
 abbrev pub core_text : ℕ → List ℕ

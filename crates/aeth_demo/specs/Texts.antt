@@ -1,9 +1,8 @@
 -- The files that are made from a number.
 -- This project's own.
-use Rattle.std.specs.Prelude.{ℕ, List}
-use Rattle.aeth_demo.specs.Mesh.{mesh_text}
-use Rattle.aeth_demo.specs.Streams.{streams_text}
-use Rattle.aeth_demo.specs.Traces.{receivers_text, switches_text, words_text}
+use Rattle.std.proofs.Common.{ℕ, List}
+use Rattle.aeth_demo.specs.{Mesh.mesh_text, Streams.streams_text, Traces.receivers_text}
+use Rattle.aeth_demo.specs.{Traces.switches_text, Traces.words_text}
 
 -- Five files: a chip, an application, and three traces.
 pub record TextsData : Type 0 where

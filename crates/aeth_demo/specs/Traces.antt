@@ -1,10 +1,9 @@
 -- The traces: a word in every other cycle on a connection that is drawn, receivers as usual, and a
 -- switch in every 5,000 cycles.
 -- This project's own.
-use Rattle.std.specs.Prelude.{ℕ, ◌*◌, ◌++◌, List, codes, decimal}
-use Rattle.aeth_demo.specs.Draws.{drawn, number_after}
-use Rattle.aeth_demo.specs.Limits.{demo_connections, demo_words}
-use Rattle.aeth_demo.specs.Pieces.{texts_below}
+use Rattle.std.proofs.Common.{ℕ, ◌*◌, ◌++◌, List, codes, decimal}
+use Rattle.aeth_demo.specs.{Draws.drawn, Draws.number_after, Limits.demo_connections}
+use Rattle.aeth_demo.specs.{Limits.demo_words, Pieces.texts_below}
 
 -- The row of word i on a connection.
 abbrev pub word_row : ℕ → ℕ → List ℕ

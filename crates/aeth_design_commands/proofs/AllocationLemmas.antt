@@ -1,7 +1,6 @@
 -- Laws of the answer to an allocation.
 use Rattle.std.proofs.Common.{◌≢◌, ◌<◌, List, [], ◌∷◌, arith}
-use Rattle.aeth_alloc.specs.Allocation.{OutcomeData}
-use Rattle.aeth_alloc.specs.declared.outcome.Refused.{Refused}
+use Rattle.aeth_alloc.specs.{Allocation.OutcomeData, declared.outcome.Refused.Refused}
 use Rattle.aeth_app.specs.App.{AppData}
 use Rattle.aeth_chip.specs.Chip.{ChipData}
 use Rattle.aeth_answers.specs.Status.{read_fault_status, usage_status}

@@ -1,10 +1,9 @@
 -- The answers on slots and their latency are those to a command that has read its files.
 use Rattle.std.proofs.Common.{◌≢◌, ◌<◌, ℕ, List, Bool, true, false, Option, Some, None, arith}
-use Rattle.std.specs.Prelude.{codes, if◌then◌else◌, length, nat_le}
+use Rattle.std.proofs.Common.{codes, if◌then◌else◌, length, nat_le}
 use Rattle.aeth_answers.specs.Job.{Job, done, not_granted}
 use Rattle.aeth_answers.specs.Status.{read_fault_status, usage_status}
-use Rattle.aeth_slots.specs.Choice.{chosen}
-use Rattle.aeth_slots.specs.SlotSet.{Slots}
+use Rattle.aeth_slots.specs.{Choice.chosen, SlotSet.Slots}
 use Rattle.aeth_design_commands.specs.Server.{latency_job, latency_text}
 use Rattle.aeth_design_commands.specs.Slots.{chosen_job, chosen_text}
 

@@ -1,20 +1,17 @@
 -- `allocate CHIP APP`: the plan of the allocation, or the units that are refused.
 -- This project's own.
-use Rattle.std.specs.Prelude.{ℕ, ◌++◌, List, [], ◌∷◌, flat_map, Option, Some, None, codes, decimal}
-use Rattle.aeth_alloc.specs.Allocation.{OutcomeData, allocation}
-use Rattle.aeth_alloc.specs.Prices.{prices_of}
-use Rattle.aeth_alloc.specs.declared.outcome.Refused.{Refused}
+use Rattle.std.proofs.Common.{ℕ, ◌++◌, List, [], ◌∷◌, flat_map, Option, Some, None, codes, decimal}
+use Rattle.aeth_alloc.specs.{Allocation.OutcomeData, Allocation.allocation, Prices.prices_of}
+use Rattle.aeth_alloc.specs.{declared.outcome.Refused.Refused}
 use Rattle.aeth_app.specs.App.{AppData}
 use Rattle.aeth_chip.specs.Chip.{ChipData}
 use Rattle.aeth_group.specs.Members.{groups_of}
 use Rattle.aeth_plan.specs.PlanText.{plan_text}
 use Rattle.aeth_design_commands.specs.declared.command.DesignCommand.{DesignCommand}
+use Rattle.aeth_files.specs.{Files.design_file, Plans.side_text}
+use Rattle.aeth_answers.specs.{Job.Job, Job.done, Job.not_granted, Task.Task, Task.ends}
+use Rattle.aeth_answers.specs.{Words.◌>>=◌, Words.file_name_of}
 use Rattle.aeth_design_commands.specs.declared.command.DesignCommand.TheVariants as command
-use Rattle.aeth_files.specs.Files.{design_file}
-use Rattle.aeth_answers.specs.Job.{Job, done, not_granted}
-use Rattle.aeth_files.specs.Plans.{side_text}
-use Rattle.aeth_answers.specs.Task.{Task, ends}
-use Rattle.aeth_answers.specs.Words.{◌>>=◌, file_name_of}
 
 -- CHIP a chip file, APP an application file.
 abbrev pub allocate_command : List (List ℕ) → Option DesignCommand

@@ -1,18 +1,14 @@
 -- `app CHIP APP`: the summary of an application, and what its connections need.
 -- This project's own.
-use Rattle.std.specs.Prelude.{ℕ, ◌++◌, List, [], ◌∷◌, length, flat_map, Option, Some, None, codes}
-use Rattle.std.specs.Prelude.{decimal}
-use Rattle.aeth_app.specs.App.{AppData}
-use Rattle.aeth_app.specs.Rates.{need_of}
-use Rattle.aeth_app.specs.declared.connection.Connection.{Connection}
+use Rattle.std.proofs.Common.{ℕ, ◌++◌, List, [], ◌∷◌, length, flat_map, Option, Some, None, codes}
+use Rattle.std.proofs.Common.{decimal}
+use Rattle.aeth_app.specs.{App.AppData, Rates.need_of, declared.connection.Connection.Connection}
 use Rattle.aeth_base.specs.declared.ids.Side.TheVariants.{Fwd, Back}
 use Rattle.aeth_group.specs.Members.{groups_of, units_of}
 use Rattle.aeth_design_commands.specs.declared.command.DesignCommand.{DesignCommand}
-use Rattle.aeth_design_commands.specs.declared.command.DesignCommand.TheVariants as command
 use Rattle.aeth_files.specs.Files.{design_file}
-use Rattle.aeth_answers.specs.Job.{done}
-use Rattle.aeth_answers.specs.Task.{Task, ends}
-use Rattle.aeth_answers.specs.Words.{◌>>=◌, file_name_of}
+use Rattle.aeth_answers.specs.{Job.done, Task.Task, Task.ends, Words.◌>>=◌, Words.file_name_of}
+use Rattle.aeth_design_commands.specs.declared.command.DesignCommand.TheVariants as command
 
 -- CHIP a chip file, APP an application file.
 abbrev pub app_command : List (List ℕ) → Option DesignCommand

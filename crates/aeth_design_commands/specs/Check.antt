@@ -1,14 +1,11 @@
 -- `check CHIP APP PLAN`: whether a plan is accepted, or the first rule that it breaks.
 -- This project's own.
-use Rattle.std.specs.Prelude.{ℕ, List, [], ◌∷◌, Option, Some, None, codes}
+use Rattle.std.proofs.Common.{ℕ, List, [], ◌∷◌, Option, Some, None, codes}
 use Rattle.aeth_plan.specs.declared.design.Design.{Design}
 use Rattle.aeth_design_commands.specs.declared.command.DesignCommand.{DesignCommand}
+use Rattle.aeth_files.specs.{Files.design_file, Plans.accepted_file}
+use Rattle.aeth_answers.specs.{Job.done, Task.Task, Task.ends, Words.◌>>=◌, Words.file_name_of}
 use Rattle.aeth_design_commands.specs.declared.command.DesignCommand.TheVariants as command
-use Rattle.aeth_files.specs.Files.{design_file}
-use Rattle.aeth_answers.specs.Job.{done}
-use Rattle.aeth_files.specs.Plans.{accepted_file}
-use Rattle.aeth_answers.specs.Task.{Task, ends}
-use Rattle.aeth_answers.specs.Words.{◌>>=◌, file_name_of}
 
 -- CHIP a chip file, APP an application file, PLAN a plan text.
 abbrev pub check_command : List (List ℕ) → Option DesignCommand

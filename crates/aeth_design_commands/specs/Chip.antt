@@ -1,14 +1,11 @@
 -- `chip CHIP`: the summary of a chip.
 -- This project's own.
-use Rattle.std.specs.Prelude.{ℕ, ◌++◌, List, [], ◌∷◌, length, Option, Some, None, codes, decimal}
-use Rattle.aeth_chip.specs.Chip.{ChipData}
-use Rattle.aeth_chip.specs.Summary.{far_of, unreached_of}
+use Rattle.std.proofs.Common.{ℕ, ◌++◌, List, [], ◌∷◌, length, Option, Some, None, codes, decimal}
+use Rattle.aeth_chip.specs.{Chip.ChipData, Summary.far_of, Summary.unreached_of}
 use Rattle.aeth_design_commands.specs.declared.command.DesignCommand.{DesignCommand}
-use Rattle.aeth_design_commands.specs.declared.command.DesignCommand.TheVariants as command
 use Rattle.aeth_files.specs.Files.{chip_file}
-use Rattle.aeth_answers.specs.Job.{done}
-use Rattle.aeth_answers.specs.Task.{Task, ends}
-use Rattle.aeth_answers.specs.Words.{◌>>=◌, file_name_of}
+use Rattle.aeth_answers.specs.{Job.done, Task.Task, Task.ends, Words.◌>>=◌, Words.file_name_of}
+use Rattle.aeth_design_commands.specs.declared.command.DesignCommand.TheVariants as command
 
 -- CHIP a chip file.
 abbrev pub chip_command : List (List ℕ) → Option DesignCommand

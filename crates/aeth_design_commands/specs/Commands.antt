@@ -1,16 +1,15 @@
 -- The commands on designs, and what each asks for.
 -- This project's own.
-use Rattle.std.specs.Prelude.{ℕ, ◌≤◌, ⊤, List, Option, None, codes, if◌then◌else◌}
-use Rattle.std.specs.Str.{bytes_eq}
+use Rattle.std.proofs.Common.{ℕ, ◌≤◌, List, Option, None, codes, if◌then◌else◌}
+use Rattle.std.specs.{Prelude.⊤, Str.bytes_eq}
 use Rattle.aeth_answers.specs.Task.{Task, ends}
 use Rattle.aeth_base.specs.Limits.{max_path_delay, max_slots}
-use Rattle.aeth_design_commands.specs.Allocate.{allocate_command, allocate_task}
-use Rattle.aeth_design_commands.specs.App.{app_command, app_task}
-use Rattle.aeth_design_commands.specs.Check.{check_command, check_task}
-use Rattle.aeth_design_commands.specs.Chip.{chip_command, chip_task}
-use Rattle.aeth_design_commands.specs.Server.{latency_job, server_command}
-use Rattle.aeth_design_commands.specs.Slots.{chosen_job, slots_command}
-use Rattle.aeth_design_commands.specs.declared.command.DesignCommand.{DesignCommand}
+use Rattle.aeth_design_commands.specs.{Allocate.allocate_command, Allocate.allocate_task}
+use Rattle.aeth_design_commands.specs.{App.app_command, App.app_task, Check.check_command}
+use Rattle.aeth_design_commands.specs.{Check.check_task, Chip.chip_command, Chip.chip_task}
+use Rattle.aeth_design_commands.specs.{Server.latency_job, Server.server_command, Slots.chosen_job}
+use Rattle.aeth_design_commands.specs.{Slots.slots_command}
+use Rattle.aeth_design_commands.specs.{declared.command.DesignCommand.DesignCommand}
 use Rattle.aeth_design_commands.specs.declared.command.DesignCommand.TheVariants as command
 
 -- The command on a design that a name and the words behind it are, if they are one.

@@ -1,15 +1,15 @@
 -- `server SIZE NEED LINKS SLOTS`: the rate that a need stands for, the least latency that the slots
 -- guarantee at this rate, and the total over a path.
 -- This project's own.
-use Rattle.std.specs.Prelude.{ℕ, ◌+◌, ◌*◌, ◌++◌, nat_le, List, [], ◌∷◌, length, Option, Some, None}
-use Rattle.std.specs.Prelude.{codes, decimal, if◌then◌else◌}
+use Rattle.std.proofs.Common.{ℕ, ◌+◌, ◌*◌, ◌++◌, nat_le, List, [], ◌∷◌, length, Option, Some, None}
+use Rattle.std.proofs.Common.{codes, decimal, if◌then◌else◌}
 use Rattle.aeth_base.specs.Limits.{max_path_delay, max_slots, min_path_links, words_per_flit}
 use Rattle.aeth_server.specs.Latency.{latency_of}
 use Rattle.aeth_slots.specs.SlotSet.{Slots}
 use Rattle.aeth_design_commands.specs.declared.command.DesignCommand.{DesignCommand}
-use Rattle.aeth_design_commands.specs.declared.command.DesignCommand.TheVariants as command
 use Rattle.aeth_answers.specs.Job.{Job, done, not_granted}
 use Rattle.aeth_answers.specs.Words.{◌>>=◌, number_within, slot_set_of}
+use Rattle.aeth_design_commands.specs.declared.command.DesignCommand.TheVariants as command
 
 -- SIZE and NEED from 1 to the size of the largest table, LINKS the delay of a path, in cycles,
 -- SLOTS a list of slots.

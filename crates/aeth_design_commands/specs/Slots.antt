@@ -1,15 +1,12 @@
 -- `slots SIZE NEED GAP FREE`: the chosen set out of the free slots of a table.
 -- This project's own.
-use Rattle.std.specs.Prelude.{ℕ, ◌++◌, List, [], ◌∷◌, Option, Some, None, codes}
+use Rattle.std.proofs.Common.{ℕ, ◌++◌, List, [], ◌∷◌, Option, Some, None, codes}
 use Rattle.aeth_base.specs.Limits.{max_slots}
-use Rattle.aeth_slots.specs.SlotSet.{Slots}
-use Rattle.aeth_slots.specs.Choice.{chosen}
-use Rattle.aeth_design_commands.specs.declared.command.DesignCommand.{DesignCommand}
+use Rattle.aeth_slots.specs.{SlotSet.Slots, Choice.chosen}
+use Rattle.aeth_design_commands.specs.{declared.command.DesignCommand.DesignCommand, Limits.max_gap}
+use Rattle.aeth_answers.specs.{Job.Job, Job.done, Job.not_granted, Text.list_text, Words.◌>>=◌}
+use Rattle.aeth_answers.specs.{Words.number_within, Words.slot_set_of}
 use Rattle.aeth_design_commands.specs.declared.command.DesignCommand.TheVariants as command
-use Rattle.aeth_answers.specs.Job.{Job, done, not_granted}
-use Rattle.aeth_design_commands.specs.Limits.{max_gap}
-use Rattle.aeth_answers.specs.Text.{list_text}
-use Rattle.aeth_answers.specs.Words.{◌>>=◌, number_within, slot_set_of}
 
 -- SIZE and NEED from 1 to the size of the largest table, GAP from 0 to the greatest gap, FREE a
 -- list of slots.

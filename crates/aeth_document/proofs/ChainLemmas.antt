@@ -1,10 +1,7 @@
 -- Laws of rules that are judged one after the other.
-use Rattle.std.proofs.Common.{◌≡◌, ℕ, List, Option, Some, None, refl}
-use Rattle.std.specs.Prelude.{Result, Ok, Err}
-use Rattle.aeth_base.specs.Faults.{BrokenRule}
-use Rattle.aeth_base.specs.declared.shown.Broken.{Broken}
-use Rattle.aeth_document.specs.Chain.{◌>>=◌}
-use Rattle.aeth_document.specs.Walks.{judged}
+use Rattle.std.proofs.Common.{◌≡◌, ℕ, List, Option, Some, None, refl, Result, Ok, Err}
+use Rattle.aeth_base.specs.{Faults.BrokenRule, declared.shown.Broken.Broken}
+use Rattle.aeth_document.specs.{Chain.◌>>=◌, Walks.judged}
 
 -- Where a chain gives a value, so does its first rule, and the rest gives it of that.
 pub bind_ok : {A B : Type 0} (first : Result A BrokenRule) (next : A → Result B BrokenRule) (y : B)

@@ -1,9 +1,7 @@
 -- The document of bytes that are UTF-8, and of bytes that aren't.
-use Rattle.std.proofs.Common.{◌≡◌, ℕ, List, None, inl, inr}
-use Rattle.std.specs.Prelude.{IsUtf8}
+use Rattle.std.proofs.Common.{◌≡◌, ℕ, List, None, inl, inr, IsUtf8}
+use Rattle.std.proofs.lemmas.{Bool.cases_Bool, Str.is_utf8-from_IsUtf8, Str.IsUtf8-from_is_utf8}
 use Rattle.std.specs.Str.{is_utf8}
-use Rattle.std.proofs.lemmas.Bool.{cases_Bool}
-use Rattle.std.proofs.lemmas.Str.{is_utf8-from_IsUtf8, IsUtf8-from_is_utf8}
 use Rattle.toml.specs.Parse.{parse_document}
 use Rattle.aeth_document.specs.Document.{document_of}
 

@@ -1,12 +1,10 @@
 -- Laws of the keys of tables that fit.
-use Rattle.std.proofs.Common.{◌≡◌, ◌∙◌, ◌++◌, ℕ, false, List, [], ◌∷◌, Option, Some}
-use Rattle.std.proofs.Common.{None, Less, Equal, Greater, Ordering, nat_cmp, fold, refl, sym, inl, inr}
-use Rattle.std.specs.Ordering.{is_lt, match_ordering}
-use Rattle.std.specs.Cmp.Lexicographic.{slice_cmp}
-use Rattle.std.proofs.lemmas.Bool.{cases_Bool, false≢true}
-use Rattle.std.proofs.lemmas.Map.Lookups.{exact_bytes}
+use Rattle.std.proofs.Common.{◌≡◌, ◌∙◌, ◌++◌, ℕ, false, List, [], ◌∷◌, Option, Some, None, Less}
+use Rattle.std.proofs.Common.{Equal, Greater, Ordering, nat_cmp, fold, refl, sym, inl, inr}
+use Rattle.std.proofs.Common.{option_map}
+use Rattle.std.proofs.lemmas.{Bool.cases_Bool, Bool.false≢true, Map.Lookups.exact_bytes}
+use Rattle.std.specs.{Ordering.is_lt, Ordering.match_ordering, Cmp.Lexicographic.slice_cmp}
 use Rattle.toml.specs.Data.{Data, Members, no_members, member, get_member}
-use Rattle.std.specs.Prelude.{option_map}
 use Rattle.aeth_base.specs.Shown.{shown_text}
 use Rattle.aeth_document.specs.Keys.{Fields, entries_of, is_expected, least, least_wrong_key}
 use Rattle.aeth_document.specs.Keys.{lesser, misfit_keys, missing_keys, wrong_key}

@@ -1,16 +1,11 @@
 -- Keys that are a table's fields in their order are none of them wrong.
-use Rattle.std.proofs.Common.{◌≡◌, ◌∙◌, sym, ap, ℕ, true, false, ◌&&◌, List, [], ◌∷◌, map}
-use Rattle.std.proofs.Common.{Option, Some, None, Less, Equal, Greater, Ordering, nat_cmp, refl}
-use Rattle.std.proofs.Common.{inl, inr, is_none}
-use Rattle.std.specs.Prelude.{◌⊎◌}
-use Rattle.std.specs.List.Sorted.{IsStrictlySortedBy}
-use Rattle.std.specs.Ordering.{is_lt, match_ordering}
-use Rattle.std.specs.Str.{bytes_eq}
-use Rattle.std.specs.Cmp.Lexicographic.{slice_cmp}
-use Rattle.std.proofs.lemmas.Bool.{and_parts, cases_Bool}
-use Rattle.std.proofs.lemmas.Cmp.{nat_list_cmp_total, tied_itself}
-use Rattle.std.proofs.lemmas.Option.{same_Some}
-use Rattle.std.proofs.lemmas.Slice.Eq.{bytes_eq-Decides}
+use Rattle.std.proofs.Common.{◌≡◌, ◌∙◌, sym, ap, ℕ, true, false, ◌&&◌, List, [], ◌∷◌, map, Option}
+use Rattle.std.proofs.Common.{Some, None, Less, Equal, Greater, Ordering, nat_cmp, refl, inl, inr}
+use Rattle.std.proofs.Common.{is_none, ◌⊎◌}
+use Rattle.std.proofs.lemmas.{Bool.and_parts, Bool.cases_Bool, Cmp.nat_list_cmp_total}
+use Rattle.std.proofs.lemmas.{Cmp.tied_itself, Option.same_Some, Slice.Eq.bytes_eq-Decides}
+use Rattle.std.specs.{List.Sorted.IsStrictlySortedBy, Ordering.is_lt, Ordering.match_ordering}
+use Rattle.std.specs.{Str.bytes_eq, Cmp.Lexicographic.slice_cmp}
 use Rattle.toml.specs.Data.{Data, Members, no_members, member, get_member}
 use Rattle.aeth_document.specs.Keys.{Fields, entries_of, has_kind, is_expected, is_optional}
 use Rattle.aeth_document.specs.Keys.{is_missing, least_wrong_key, misfit_keys, missing_keys}

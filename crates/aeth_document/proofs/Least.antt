@@ -1,20 +1,12 @@
 -- The least of some keys.
 use Rattle.std.proofs.Common.{◌≡◌, ◌∙◌, sym, ap, ℕ, List, [], ◌∷◌, ◌++◌, map, fold, Option, Some}
 use Rattle.std.proofs.Common.{None, Less, Equal, Greater, Ordering, nat_cmp, refl, inl, inr, String}
-use Rattle.std.proofs.Common.{Global, string_bytes}
-use Rattle.std.specs.List.{AllByRecursion}
-use Rattle.std.specs.List.Sorted.{IsStrictlySortedBy}
-use Rattle.std.specs.Cmp.Lexicographic.{slice_cmp}
-use Rattle.std.proofs.lemmas.Bool.{cases_Bool}
-use Rattle.std.proofs.lemmas.List.{append-nil}
-use Rattle.std.proofs.lemmas.List.Sums.{fold-append}
-use Rattle.std.proofs.lemmas.Option.{same_Some}
-use Rattle.std.specs.Map.{keys_of}
-use Rattle.std.specs.String.{string_cmp}
-use Rattle.toml.specs.View.{members_view}
-use Rattle.toml.specs.declared.value.Value.{Value}
-use Rattle.std.proofs.lemmas.Cmp.{nat_list_cmp_total}
-use Rattle.toml.specs.Data.{Data}
+use Rattle.std.proofs.Common.{Global, string_bytes, append-nil}
+use Rattle.std.proofs.lemmas.{Bool.cases_Bool, List.Sums.fold-append, Option.same_Some}
+use Rattle.std.proofs.lemmas.{Cmp.nat_list_cmp_total}
+use Rattle.std.specs.{List.AllByRecursion, List.Sorted.IsStrictlySortedBy}
+use Rattle.std.specs.{Cmp.Lexicographic.slice_cmp, Map.keys_of, String.string_cmp}
+use Rattle.toml.specs.{View.members_view, declared.value.Value.Value, Data.Data}
 use Rattle.aeth_document.specs.Keys.{Fields, lesser, misfit_keys, first_of, is_expected, least}
 use Rattle.aeth_document.specs.Keys.{entries_of}
 

@@ -1,10 +1,9 @@
 -- A table's and an array's values, as lists.
 use Rattle.std.proofs.Common.{◌≡◌, ◌∙◌, sym, Bool, Some, List, [], ◌∷◌, map, refl, ap}
-use Rattle.std.specs.List.{list_all}
 use Rattle.std.proofs.lemmas.List.Folds.{list_all-map}
-use Rattle.toml.specs.Data.{Data, as_array}
-use Rattle.toml.specs.View.{view, items_view}
-use Rattle.toml.specs.declared.value.Value.{Value}
+use Rattle.std.specs.List.{list_all}
+use Rattle.toml.specs.{Data.Data, Data.as_array, View.view, View.items_view}
+use Rattle.toml.specs.{declared.value.Value.Value}
 use Rattle.aeth_document.specs.Keys.{listed, all_items}
 
 pub listed-items_view : (vs : List Value) → listed (items_view vs) ≡ map view vs

@@ -1,11 +1,8 @@
 -- Sets of texts, as lists of what the texts show.
 use Rattle.std.proofs.Common.{◌≡◌, ◌≤◌, ◌∙◌, ℕ, List, [], ◌∷◌, ◌++◌, Option, Some, None, inl, inr}
-use Rattle.std.proofs.Common.{ap, length, map, refl, take}
-use Rattle.std.specs.Prelude.{IsSome}
-use Rattle.std.specs.List.{list_any}
-use Rattle.std.specs.Str.{bytes_eq}
-use Rattle.std.proofs.lemmas.Bool.{cases_Bool}
-use Rattle.std.proofs.lemmas.List.{map-append, take-append-le}
+use Rattle.std.proofs.Common.{ap, length, map, refl, take, IsSome}
+use Rattle.std.proofs.lemmas.{Bool.cases_Bool, List.map-append, List.take-append-le}
+use Rattle.std.specs.{List.list_any, Str.bytes_eq}
 use Rattle.aeth_base.proofs.Lists.{list_any-map}
 use Rattle.indexmap.specs.IndexSet.{insert_key}
 

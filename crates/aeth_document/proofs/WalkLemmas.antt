@@ -1,24 +1,17 @@
 -- Laws of walks.
-use Rattle.std.proofs.Common.{append_assoc, ◌≡◌, ◌≤◌, ◌<◌, ◌+◌, ◌++◌, ℕ, zero, suc, ℤ}
-use Rattle.std.proofs.Common.{pos, negsuc, true, false, List, [], ◌∷◌, length, map, Option, Some}
-use Rattle.std.proofs.Common.{None, is_none, refl, sym, ap, inl, inr, arith}
-use Rattle.std.specs.Prelude.{position}
+use Rattle.std.proofs.Common.{append_assoc, ◌≡◌, ◌≤◌, ◌<◌, ◌+◌, ◌++◌, ℕ, zero, suc, ℤ, pos, negsuc}
+use Rattle.std.proofs.Common.{true, false, List, [], ◌∷◌, length, map, Option, Some, None, is_none}
+use Rattle.std.proofs.Common.{refl, sym, ap, inl, inr, arith, position, append-nil}
+use Rattle.std.proofs.lemmas.{Bool.cases_Bool, Cmp.nat_list_eq_equiv}
+use Rattle.std.proofs.lemmas.{List.Quantifiers.position-Some, List.Sums.fold-append}
+use Rattle.std.proofs.lemmas.{Map.Keys.IsDistinct-push, Option.option_and_then_some}
 use Rattle.std.specs.List.{AllByRecursion, IsDistinct, filter_map, list_any, range_with_len}
 use Rattle.std.specs.Str.{bytes_eq}
-use Rattle.std.proofs.lemmas.Bool.{cases_Bool}
-use Rattle.std.proofs.lemmas.Cmp.{nat_list_eq_equiv}
-use Rattle.std.proofs.lemmas.List.{append-nil}
-use Rattle.std.proofs.lemmas.List.Quantifiers.{position-Some}
-use Rattle.std.proofs.lemmas.List.Sums.{fold-append}
-use Rattle.std.proofs.lemmas.Map.Keys.{IsDistinct-push}
-use Rattle.std.proofs.lemmas.Option.{option_and_then_some}
 use Rattle.aeth_base.specs.Name.{is_name, name_of}
-use Rattle.aeth_base.specs.declared.shown.Broken.{Broken}
-use Rattle.aeth_base.specs.declared.shown.Shown.{Shown}
+use Rattle.aeth_base.specs.declared.shown.{Broken.Broken, Shown.Shown}
 use Rattle.aeth_document.specs.Walks.{first_broken, found_by, next_place, no_name, outside}
 use Rattle.aeth_document.specs.Walks.{place_of, repeated, repeats, size_of, step, walked}
-use Rattle.aeth_document.specs.declared.walk.Walk.{Walk}
-use Rattle.aeth_document.specs.declared.walk.Walk.TheVariants.{At, Stopped}
+use Rattle.aeth_document.specs.declared.walk.Walk.{Walk, TheVariants.At, TheVariants.Stopped}
 
 -- A walk over one list and then another is the walk over the two in one.
 pub walked-append : (walk : Walk) (xs ys : List (Option Shown))

@@ -1,11 +1,8 @@
 -- The tables and the texts of an array that are left, one after the other.
 -- This project's own.
-use Rattle.std.specs.Prelude.{ℕ, List, map}
-use Rattle.std.specs.List.{filter_map}
-use Rattle.toml.specs.Data.{Members, as_str, as_table}
-use Rattle.toml.specs.View.{view}
-use Rattle.aeth_document.specs.declared.tables.Tables.{Tables}
-use Rattle.aeth_document.specs.declared.tables.Texts.{Texts}
+use Rattle.std.{proofs.Common.ℕ, proofs.Common.List, proofs.Common.map, specs.List.filter_map}
+use Rattle.toml.specs.{Data.Members, Data.as_str, Data.as_table, View.view}
+use Rattle.aeth_document.specs.declared.tables.{Tables.Tables, Texts.Texts}
 
 -- The tables that are left.
 abbrev pub tables_in : Tables → List Members

@@ -1,6 +1,6 @@
 -- Rules that are judged one after the other.
 -- This project's own.
-use Rattle.std.specs.Prelude.{Result, Ok, Err}
+use Rattle.std.proofs.Common.{Result, Ok, Err}
 
 -- What the first gives is handed on; a broken rule ends the chain.
 infixl 10 ◌>>=◌

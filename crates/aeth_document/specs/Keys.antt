@@ -5,19 +5,15 @@
 --   least_wrong_key           the least key that is missing, unknown or of another kind
 --   wrong_key                 the same as a refusal shows it
 -- This project's own.
-use Rattle.std.specs.Prelude.{true, false, not, ℕ, Bool, List, [], ◌∷◌, ◌++◌, map, filter, fold}
-use Rattle.std.specs.Prelude.{Option, Some, None, option_map, is_some, is_none, if◌then◌else◌}
-use Rattle.std.specs.List.{list_all}
-use Rattle.std.specs.Str.{bytes_eq}
-use Rattle.std.specs.Ordering.{is_lt, nat_cmp}
-use Rattle.std.specs.Cmp.Lexicographic.{slice_cmp}
+use Rattle.std.proofs.Common.{true, false, not, ℕ, Bool, List, [], ◌∷◌, ◌++◌, map, filter, fold}
+use Rattle.std.proofs.Common.{Option, Some, None, option_map, is_some, is_none, if◌then◌else◌}
+use Rattle.std.specs.{List.list_all, Str.bytes_eq, Ordering.is_lt, Ordering.nat_cmp}
+use Rattle.std.specs.{Cmp.Lexicographic.slice_cmp}
 use Rattle.toml.specs.Data.{Data, Items, no_items, item, Members, no_members, member, get_member}
 use Rattle.toml.specs.Data.{as_str, as_integer, as_array, as_table}
-use Rattle.aeth_document.specs.declared.keys.Field.{Field}
-use Rattle.aeth_document.specs.declared.keys.Kind.{Kind}
+use Rattle.aeth_document.specs.declared.keys.{Field.Field, Kind.Kind}
+use Rattle.aeth_base.specs.{declared.shown.Shown.Shown, Shown.shown_text}
 use Rattle.aeth_document.specs.declared.keys.Kind.TheVariants as kind
-use Rattle.aeth_base.specs.declared.shown.Shown.{Shown}
-use Rattle.aeth_base.specs.Shown.{shown_text}
 
 -- The items of an array in order.
 abbrev pub listed : Items → List Data

@@ -1,10 +1,8 @@
 -- Keys of a table that are its fields in their order.
 -- This project's own.
-use Rattle.std.specs.Prelude.{true, false, ℕ, Bool, ◌&&◌, List, [], ◌∷◌}
-use Rattle.std.specs.Prelude.{Option, Some, None, if◌then◌else◌}
-use Rattle.std.specs.Str.{bytes_eq}
-use Rattle.std.specs.Ordering.{is_lt, nat_cmp}
-use Rattle.std.specs.Cmp.Lexicographic.{slice_cmp}
+use Rattle.std.proofs.Common.{true, false, ℕ, Bool, ◌&&◌, List, [], ◌∷◌, Option, Some, None}
+use Rattle.std.proofs.Common.{if◌then◌else◌}
+use Rattle.std.specs.{Str.bytes_eq, Ordering.is_lt, Ordering.nat_cmp, Cmp.Lexicographic.slice_cmp}
 use Rattle.toml.specs.Data.{Data}
 use Rattle.aeth_document.specs.Keys.{Fields, has_kind, is_optional}
 

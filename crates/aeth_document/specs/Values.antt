@@ -1,6 +1,6 @@
 -- What stands at a key of a table.
 -- This project's own.
-use Rattle.std.specs.Prelude.{ℕ, ℤ, pos, List, [], Option, option_map, option_and_then, unwrap_or}
+use Rattle.std.proofs.Common.{ℕ, ℤ, pos, List, [], Option, option_map, option_and_then, unwrap_or}
 use Rattle.std.specs.List.{filter_map}
 use Rattle.toml.specs.Data.{Data, Members, get_member, as_str, as_integer, as_array, as_table}
 use Rattle.aeth_document.specs.Keys.{listed}

@@ -5,20 +5,16 @@
 --   judged    a rule, by the walk over its checks
 --   outside, no_name, repeats, place_of, size_of    checks of numbers and names
 -- This project's own.
-use Rattle.std.specs.Prelude.{ℕ, ◌+◌, ℤ, pos, negsuc, ◌&&◌, nat_le, List, [], ◌∷◌, ◌++◌, Option}
-use Rattle.std.specs.Prelude.{Some, None, Result, Ok, Err, fold, min, position, option_and_then}
-use Rattle.std.specs.Prelude.{if◌then◌else◌}
-use Rattle.std.specs.List.{list_any}
-use Rattle.std.specs.Str.{bytes_eq}
-use Rattle.aeth_base.specs.Faults.{BrokenRule, broken_as}
-use Rattle.aeth_base.specs.Name.{is_name, name_of}
-use Rattle.aeth_base.specs.declared.shown.Broken.{Broken}
-use Rattle.aeth_base.specs.declared.shown.Shown.{Shown}
-use Rattle.aeth_base.specs.declared.shown.Shown.TheVariants.{Odd, Number}
-use Rattle.aeth_base.specs.Shown.{shown_text}
+use Rattle.std.proofs.Common.{ℕ, ◌+◌, ℤ, pos, negsuc, ◌&&◌, nat_le, List, [], ◌∷◌, ◌++◌, Option}
+use Rattle.std.proofs.Common.{Some, None, Result, Ok, Err, fold, min, position, option_and_then}
+use Rattle.std.proofs.Common.{if◌then◌else◌}
+use Rattle.std.specs.{List.list_any, Str.bytes_eq}
+use Rattle.aeth_base.specs.{Faults.BrokenRule, Faults.broken_as, Name.is_name, Name.name_of}
+use Rattle.aeth_base.specs.{declared.shown.Broken.Broken, declared.shown.Shown.Shown}
+use Rattle.aeth_base.specs.{declared.shown.Shown.TheVariants.Odd}
+use Rattle.aeth_base.specs.{declared.shown.Shown.TheVariants.Number, Shown.shown_text}
 use Rattle.aeth_document.specs.Limits.{last_place}
-use Rattle.aeth_document.specs.declared.walk.Walk.{Walk}
-use Rattle.aeth_document.specs.declared.walk.Walk.TheVariants.{At, Stopped}
+use Rattle.aeth_document.specs.declared.walk.Walk.{Walk, TheVariants.At, TheVariants.Stopped}
 
 -- The place after a place.
 abbrev pub next_place : ℕ → ℕ

@@ -1,41 +1,33 @@
 -- What the lists that begin with a list come to for a walk: where no path that the try may take is one
 -- of them, where the list is dead, and where it is live.
-use Rattle.std.proofs.Common.{◌≡◌, ◌∙◌, ◌+◌, ◌-◌, ◌≤◌, ◌++◌, ◌&&◌, ℕ, zero, suc, Bool}
-use Rattle.std.proofs.Common.{true, false, not, List, [], ◌∷◌, Contains, None, Some, append_assoc, ap}
-use Rattle.std.proofs.Common.{arith, drop, filter, inl, inr, length, length-append, refl, subst}
-use Rattle.std.proofs.Common.{sym, take}
-use Rattle.std.specs.List.{flat_map, list_any, range_with_len}
-use Rattle.std.specs.Prelude.{slice_get}
+use Rattle.std.proofs.Common.{◌≡◌, ◌∙◌, ◌+◌, ◌-◌, ◌≤◌, ◌++◌, ◌&&◌, ℕ, zero, suc, Bool, true, false}
+use Rattle.std.proofs.Common.{not, List, [], ◌∷◌, Contains, None, Some, append_assoc, ap, arith}
+use Rattle.std.proofs.Common.{drop, filter, inl, inr, length, length-append, refl, subst, sym, take}
+use Rattle.std.proofs.Common.{slice_get, eq-eqb, take-append-drop}
 use Rattle.std.proofs.Math.Bool.{and-false}
-use Rattle.std.proofs.lemmas.Bool.{and_from, and_parts, both_ways, eq-eqb, false_from_ne_true}
-use Rattle.std.proofs.lemmas.Bool.{not-false, not-true}
-use Rattle.std.proofs.lemmas.List.{take-append-drop, take-append-le}
+use Rattle.std.proofs.lemmas.Bool.{and_from, and_parts, both_ways, false_from_ne_true, not-false}
+use Rattle.std.proofs.lemmas.Bool.{not-true}
+use Rattle.std.proofs.lemmas.List.{take-append-le}
+use Rattle.std.specs.List.{flat_map, list_any, range_with_len}
 use Rattle.aeth_base.proofs.Filters.{filter-all_fail, filter-yes}
 use Rattle.aeth_base.proofs.Members.{Contains-cases, Contains-filter, Contains-here, Contains-map}
 use Rattle.aeth_base.proofs.Members.{Contains-nil, Contains-slice_get, filter-Contains}
 use Rattle.aeth_base.proofs.Members.{flat_map-Contains, map-Contains}
 use Rattle.aeth_base.proofs.Ranges.{range-Contains}
-use Rattle.aeth_base.specs.Limits.{max_path_links}
-use Rattle.aeth_base.specs.declared.ids.LinkId.{LinkId}
-use Rattle.aeth_chip.specs.Chip.{ChipData, IsChip}
-use Rattle.aeth_chip.specs.Joined.{end_of}
-use Rattle.aeth_chip.specs.LeastDistance.{link_ids}
-use Rattle.aeth_chip.specs.Paths.{to_of}
-use Rattle.aeth_chip.specs.declared.node.Link.{Link}
-use Rattle.aeth_chip.specs.declared.node.Node.{Node}
-use Rattle.aeth_chip.specs.declared.node.Node.TheVariants.{Ni, Router}
+use Rattle.aeth_base.specs.{Limits.max_path_links, declared.ids.LinkId.LinkId}
+use Rattle.aeth_chip.specs.{Chip.ChipData, Chip.IsChip, Joined.end_of, LeastDistance.link_ids}
+use Rattle.aeth_chip.specs.{Paths.to_of, declared.node.Link.Link, declared.node.Node.Node}
+use Rattle.aeth_chip.specs.{declared.node.Node.TheVariants.Ni}
+use Rattle.aeth_chip.specs.{declared.node.Node.TheVariants.Router}
 use Rattle.aeth_group.specs.Members.{GroupsData}
 use Rattle.aeth_group.proofs.ListLemmas.{any_from_passes, passes_from_any}
-use Rattle.aeth_paths.specs.Candidates.{is_live}
-use Rattle.aeth_paths.specs.Task.{links_from}
-use Rattle.aeth_paths.specs.Trials.{TrialData, book_of}
-use Rattle.aeth_explain.specs.Certificate.{goes_on, is_first_cut, shorter_fronts}
-use Rattle.aeth_explain.specs.Cuts.{begins_with}
-use Rattle.aeth_explain.specs.Fronts.{first_open, lists_below}
-use Rattle.aeth_explain.specs.TryPaths.{MayTake, is_dead, leaves_one, leaving_lists, may_take}
-use Rattle.aeth_explain.specs.TryPaths.{onward_lists}
-use Rattle.aeth_explain.specs.Verdict.{is_open}
-use Rattle.aeth_explain.specs.Walks.{IsWalked, may_have}
+use Rattle.aeth_paths.specs.{Candidates.is_live, Task.links_from, Trials.TrialData, Trials.book_of}
+use Rattle.aeth_explain.specs.{Certificate.goes_on, Certificate.is_first_cut}
+use Rattle.aeth_explain.specs.{Certificate.shorter_fronts, Cuts.begins_with, Fronts.first_open}
+use Rattle.aeth_explain.specs.{Fronts.lists_below, TryPaths.MayTake, TryPaths.is_dead}
+use Rattle.aeth_explain.specs.{TryPaths.leaves_one, TryPaths.leaving_lists, TryPaths.may_take}
+use Rattle.aeth_explain.specs.{TryPaths.onward_lists, Verdict.is_open, Walks.IsWalked}
+use Rattle.aeth_explain.specs.{Walks.may_have}
 use Rattle.aeth_explain.proofs.CutLemmas.{begins-append, onward-are}
 use Rattle.aeth_explain.proofs.ListLemmas.{GoesOn, behind_link, dead-passed, onward-has}
 use Rattle.aeth_explain.proofs.OpenLemmas.{below-ni, below-none, below-router}

@@ -1,15 +1,12 @@
 -- Two lists compared element by element.
 use Rattle.std.proofs.Common.{◌≡◌, ◌≢◌, ◌∙◌, ◌+◌, ◌-◌, ◌≤◌, ◌⊎◌, ℕ, List, [], ◌∷◌, Some, ap, arith}
-use Rattle.std.proofs.Common.{drop, inl, inr, length, length-drop, sym}
-use Rattle.std.specs.Cmp.{nat_cmp_is}
-use Rattle.std.specs.Cmp.Lexicographic.{slice_cmp}
+use Rattle.std.proofs.Common.{drop, inl, inr, length, length-drop, sym, slice_get}
+use Rattle.std.proofs.lemmas.{Bool.cases_lt, List.drop_more, Option.get_or_from_slice_get}
+use Rattle.std.proofs.lemmas.{Option.slice_get_within}
+use Rattle.std.specs.Cmp.{nat_cmp_is, Lexicographic.slice_cmp}
 use Rattle.std.specs.Ordering.{nat_cmp, on, ordering_then}
-use Rattle.std.specs.Prelude.{slice_get}
 use Rattle.std.specs.declared.cmp.Ordering.{Ordering}
 use Rattle.std.specs.declared.cmp.Ordering.TheVariants.{Less, Equal, Greater}
-use Rattle.std.proofs.lemmas.Bool.{cases_lt}
-use Rattle.std.proofs.lemmas.List.{drop_more}
-use Rattle.std.proofs.lemmas.Option.{get_or_from_slice_get, slice_get_within}
 
 -- Unlike numbers decide.
 then-unlike : (a b : ℕ) (o : Ordering) → a ≢ b → ordering_then (nat_cmp a b) o ≡ nat_cmp a b

@@ -1,34 +1,25 @@
 -- Each shortest cut is listed; and without a candidate the shortest cuts are complete: each path
 -- that the try may take begins with one.
 use Rattle.std.proofs.Common.{◌≡◌, ◌∙◌, ◌+◌, ◌-◌, ◌<◌, ◌≤◌, ◌++◌, ◌&&◌, ◌⊎◌, ℕ, zero, suc, Bool}
-use Rattle.std.proofs.Common.{true, false, not}
-use Rattle.std.proofs.Common.{List, [], ◌∷◌, length, map, filter, take, Contains, refl, sym, ap}
-use Rattle.std.proofs.Common.{subst, arith, inl, inr}
-use Rattle.std.proofs.Common.{eqb, length-append}
+use Rattle.std.proofs.Common.{true, false, not, List, [], ◌∷◌, length, map, filter, take, Contains}
+use Rattle.std.proofs.Common.{refl, sym, ap, subst, arith, inl, inr, eqb, length-append, eq-eqb}
+use Rattle.std.proofs.lemmas.Bool.{and_from, both_ways, cases_lt, false_from_ne_true}
+use Rattle.std.proofs.Math.Seq.{take-append_seam, take-length}
 use Rattle.std.specs.List.{list_any, range_with_len}
-use Rattle.std.proofs.lemmas.Bool.{and_from, both_ways, cases_lt, eq-eqb, false_from_ne_true}
 use Rattle.aeth_base.specs.Limits.{max_path_links}
-use Rattle.aeth_base.specs.declared.ids.LinkId.{LinkId}
-use Rattle.aeth_base.specs.declared.ids.NiId.{NiId}
-use Rattle.aeth_base.specs.declared.ids.RouterId.{RouterId}
+use Rattle.aeth_base.specs.declared.ids.{LinkId.LinkId, NiId.NiId, RouterId.RouterId}
 use Rattle.aeth_base.proofs.Members.{Contains-filter, Contains-flat_map, Contains-map, map-Contains}
 use Rattle.aeth_base.proofs.Ranges.{range-Contains}
-use Rattle.std.proofs.Math.Seq.{take-append_seam, take-length}
 use Rattle.aeth_group.proofs.ListLemmas.{any_from_passes, passes_from_any}
-use Rattle.aeth_chip.specs.Chip.{ChipData}
-use Rattle.aeth_chip.specs.Joined.{IsJoined}
-use Rattle.aeth_chip.specs.LeastDistance.{link_ids}
-use Rattle.aeth_chip.specs.Paths.{BeginsAt, ends_of, to_of}
-use Rattle.aeth_chip.specs.declared.node.Link.{Link}
-use Rattle.aeth_chip.specs.declared.node.Node.{Node}
-use Rattle.aeth_chip.specs.declared.node.Node.TheVariants.{Router, Ni}
 use Rattle.aeth_group.specs.Members.{GroupsData}
-use Rattle.aeth_paths.specs.Task.{links_from}
-use Rattle.aeth_paths.specs.Trials.{TrialData}
+use Rattle.aeth_chip.specs.{Chip.ChipData, Joined.IsJoined, LeastDistance.link_ids, Paths.BeginsAt}
+use Rattle.aeth_chip.specs.{Paths.ends_of, Paths.to_of, declared.node.Link.Link}
+use Rattle.aeth_chip.specs.{declared.node.Node.Node, declared.node.Node.TheVariants.Router}
+use Rattle.aeth_chip.specs.{declared.node.Node.TheVariants.Ni}
+use Rattle.aeth_paths.specs.{Task.links_from, Trials.TrialData}
 use Rattle.aeth_explain.specs.TryPaths.{MayTake, is_dead, leaves_one, leaving_lists, may_take}
 use Rattle.aeth_explain.specs.TryPaths.{onward_lists}
-use Rattle.aeth_explain.specs.Certificate.{IsFirstCut, cuts_of, is_first_cut}
-use Rattle.aeth_explain.specs.Certificate.{shorter_fronts}
+use Rattle.aeth_explain.specs.Certificate.{IsFirstCut, cuts_of, is_first_cut, shorter_fronts}
 use Rattle.aeth_explain.specs.Cuts.{IsComplete, begins_with}
 use Rattle.aeth_explain.proofs.CutLemmas.{begins-append}
 use Rattle.aeth_explain.proofs.ListLemmas.{GoesOn, behind_link, onward-has}

@@ -1,27 +1,21 @@
 -- The shortest cuts are cuts, and are shortest; and where there is a certificate each path that the
 -- try may take is dead.
-use Rattle.std.proofs.Common.{◌≡◌, ◌∙◌, ◌-◌, ◌≤◌, ◌++◌, ◌&&◌, ℕ, zero, suc, true, eqb}
-use Rattle.std.proofs.Common.{List, [], ◌∷◌, length, filter, take, Contains, refl, sym, ap, subst}
-use Rattle.std.proofs.Common.{arith, inl, inr}
+use Rattle.std.proofs.Common.{◌≡◌, ◌∙◌, ◌-◌, ◌≤◌, ◌++◌, ◌&&◌, ℕ, zero, suc, true, eqb, List, []}
+use Rattle.std.proofs.Common.{◌∷◌, length, filter, take, Contains, refl, sym, ap, subst, arith, inl}
+use Rattle.std.proofs.Common.{inr, eqb-true}
+use Rattle.std.proofs.lemmas.Bool.{and_parts, both_ways, false≢true, false_from_ne_true, not-true}
 use Rattle.std.specs.List.{flat_map, list_any}
-use Rattle.std.proofs.lemmas.Bool.{and_parts, both_ways, eqb-true, false≢true}
-use Rattle.std.proofs.lemmas.Bool.{false_from_ne_true, not-true}
 use Rattle.aeth_base.specs.Limits.{max_path_links}
-use Rattle.aeth_base.specs.declared.ids.LinkId.{LinkId}
-use Rattle.aeth_base.specs.declared.ids.NiId.{NiId}
+use Rattle.aeth_base.specs.declared.ids.{LinkId.LinkId, NiId.NiId}
 use Rattle.aeth_base.proofs.Members.{Contains-cases, Contains-nil, filter-Contains}
 use Rattle.aeth_base.proofs.Members.{flat_map-Contains, map-Contains}
 use Rattle.aeth_group.proofs.ListLemmas.{any_from_passes, passes_from_any}
-use Rattle.aeth_chip.specs.Chip.{ChipData}
-use Rattle.aeth_chip.specs.Joined.{IsJoined}
-use Rattle.aeth_chip.specs.LeastDistance.{link_ids}
-use Rattle.aeth_chip.specs.Paths.{BeginsAt, to_of}
-use Rattle.aeth_chip.specs.declared.node.Link.{Link}
-use Rattle.aeth_chip.specs.declared.node.Node.{Node}
-use Rattle.aeth_chip.specs.declared.node.Node.TheVariants.{Router, Ni}
 use Rattle.aeth_group.specs.Members.{GroupsData}
-use Rattle.aeth_paths.specs.Task.{links_from}
-use Rattle.aeth_paths.specs.Trials.{TrialData}
+use Rattle.aeth_chip.specs.{Chip.ChipData, Joined.IsJoined, LeastDistance.link_ids, Paths.BeginsAt}
+use Rattle.aeth_chip.specs.{Paths.to_of, declared.node.Link.Link, declared.node.Node.Node}
+use Rattle.aeth_chip.specs.{declared.node.Node.TheVariants.Router}
+use Rattle.aeth_chip.specs.{declared.node.Node.TheVariants.Ni}
+use Rattle.aeth_paths.specs.{Task.links_from, Trials.TrialData}
 use Rattle.aeth_explain.specs.TryPaths.{MayTake, is_dead, leaves_one, leaving_lists, may_take}
 use Rattle.aeth_explain.specs.TryPaths.{onward_lists}
 use Rattle.aeth_explain.specs.Certificate.{IsFirstCut, cuts_of, goes_on, is_first_cut}

@@ -1,30 +1,21 @@
 -- The first open path of all lists, by the links with which they begin.
 use Rattle.std.proofs.Common.{◌≡◌, ◌∙◌, ◌+◌, ◌-◌, ◌<◌, ◌++◌, ℕ, Bool, true, false, List, [], ◌∷◌}
 use Rattle.std.proofs.Common.{Contains, None, Option, Some, arith, drop, eqb, filter, length, map}
-use Rattle.std.proofs.Common.{refl, sym, ap, subst, take}
+use Rattle.std.proofs.Common.{refl, sym, ap, subst, take, slice_get, eq-eqb, eqb-true, append-nil}
+use Rattle.std.proofs.Common.{take-append-drop}
+use Rattle.std.proofs.lemmas.{Bool.false_from_ne_true, Grind.flat_map-append}
+use Rattle.std.proofs.lemmas.{List.Elements.filter-append, List.FromFn.map-range_with_len_more}
+use Rattle.std.proofs.lemmas.{List.FromFn.take-map-range_with_len, Option.same_Some}
 use Rattle.std.specs.List.{flat_map, list_any, range_with_len}
-use Rattle.std.specs.Prelude.{slice_get}
-use Rattle.std.proofs.lemmas.Bool.{eq-eqb, eqb-true, false_from_ne_true}
-use Rattle.std.proofs.lemmas.Grind.{flat_map-append}
-use Rattle.std.proofs.lemmas.List.{append-nil, take-append-drop}
-use Rattle.std.proofs.lemmas.List.Elements.{filter-append}
-use Rattle.std.proofs.lemmas.List.FromFn.{map-range_with_len_more, take-map-range_with_len}
-use Rattle.std.proofs.lemmas.Option.{same_Some}
-use Rattle.aeth_base.proofs.ExtremeLemmas.{true_and_false}
-use Rattle.aeth_base.proofs.Filters.{filter-no, filter-yes}
+use Rattle.aeth_base.proofs.{ExtremeLemmas.true_and_false, Filters.filter-no, Filters.filter-yes}
 use Rattle.aeth_base.specs.Limits.{max_path_links}
-use Rattle.aeth_base.specs.declared.ids.LinkId.{LinkId}
-use Rattle.aeth_base.specs.declared.ids.NiId.{NiId}
-use Rattle.aeth_base.specs.declared.ids.RouterId.{RouterId}
-use Rattle.aeth_chip.specs.Chip.{ChipData}
-use Rattle.aeth_chip.specs.LeastDistance.{link_ids}
-use Rattle.aeth_chip.specs.Paths.{BeginsAt, to_in, to_of}
-use Rattle.aeth_chip.specs.declared.node.Link.{Link}
-use Rattle.aeth_chip.specs.declared.node.Node.{Node}
-use Rattle.aeth_chip.specs.declared.node.Node.TheVariants.{Ni, Router}
+use Rattle.aeth_base.specs.declared.ids.{LinkId.LinkId, NiId.NiId, RouterId.RouterId}
+use Rattle.aeth_chip.specs.{Chip.ChipData, LeastDistance.link_ids, Paths.BeginsAt, Paths.to_in}
+use Rattle.aeth_chip.specs.{Paths.to_of, declared.node.Link.Link, declared.node.Node.Node}
+use Rattle.aeth_chip.specs.{declared.node.Node.TheVariants.Ni}
+use Rattle.aeth_chip.specs.{declared.node.Node.TheVariants.Router}
 use Rattle.aeth_group.proofs.ListLemmas.{any_from_passes, passes_from_any}
-use Rattle.aeth_paths.specs.Task.{links_from}
-use Rattle.aeth_paths.specs.Trials.{TrialData}
+use Rattle.aeth_paths.specs.{Task.links_from, Trials.TrialData}
 use Rattle.aeth_paths.proofs.JoinLemmas.{begins-leaving, leaving-begins}
 use Rattle.aeth_paths.proofs.UniqueLemmas.{same-ni}
 use Rattle.aeth_explain.specs.Fronts.{first_open, first_so_far, lists_below, lists_so_far, so_far}

@@ -1,45 +1,30 @@
 -- How paths that a try may take begin: over new routers, and near enough to an interface to which the
 -- try may lead.
-use Rattle.std.proofs.Common.{◌≡◌, ◌∙◌, ◌<◌, ◌≤◌, ◌++◌, ℕ, true, not, List, [], ◌∷◌}
-use Rattle.std.proofs.Common.{false, All, Contains, Option, None, Some, length, append_assoc}
-use Rattle.std.proofs.Common.{length-append, refl, sym, ap, subst, inl, inr, arith}
-use Rattle.std.specs.Prelude.{slice_index}
-use Rattle.std.proofs.lemmas.Bool.{and_parts, both_ways}
-use Rattle.std.proofs.lemmas.Bool.{or_right}
-use Rattle.std.proofs.lemmas.List.{append-nil}
-use Rattle.std.proofs.lemmas.List.Elements.{All-push}
-use Rattle.std.proofs.lemmas.Option.{same_Some, slice_get_within}
-use Rattle.aeth_base.specs.declared.ids.LinkId.{LinkId}
-use Rattle.aeth_base.specs.declared.ids.NiId.{NiId}
-use Rattle.aeth_base.specs.declared.ids.RouterId.{RouterId}
-use Rattle.aeth_chip.specs.Chip.{ChipData, IsChip}
-use Rattle.aeth_chip.specs.Joined.{IsJoined, end_of}
-use Rattle.aeth_chip.specs.LeastOnward.{least_onward}
-use Rattle.aeth_chip.specs.Nodes.{is_router, same_node}
-use Rattle.aeth_chip.specs.Paths.{BeginsAt, IsOnward, IsOnwardDistance, IsPath, Joins}
-use Rattle.aeth_chip.specs.Paths.{to_of}
-use Rattle.aeth_chip.specs.declared.node.Link.{Link}
-use Rattle.aeth_chip.specs.declared.node.Node.{Node}
-use Rattle.aeth_chip.specs.declared.node.Node.TheVariants.{Ni, Router}
+use Rattle.std.proofs.Common.{◌≡◌, ◌∙◌, ◌<◌, ◌≤◌, ◌++◌, ℕ, true, not, List, [], ◌∷◌, false, All}
+use Rattle.std.proofs.Common.{Contains, Option, None, Some, length, append_assoc, length-append}
+use Rattle.std.proofs.Common.{refl, sym, ap, subst, inl, inr, arith, slice_index, append-nil}
+use Rattle.std.proofs.lemmas.{Bool.and_parts, Bool.both_ways, Bool.or_right, List.Elements.All-push}
+use Rattle.std.proofs.lemmas.{Option.same_Some, Option.slice_get_within}
+use Rattle.aeth_base.specs.declared.ids.{LinkId.LinkId, NiId.NiId, RouterId.RouterId}
+use Rattle.aeth_chip.specs.{Chip.ChipData, Chip.IsChip, Joined.IsJoined, Joined.end_of}
+use Rattle.aeth_chip.specs.{LeastOnward.least_onward, Nodes.is_router, Nodes.same_node}
+use Rattle.aeth_chip.specs.{Paths.BeginsAt, Paths.IsOnward, Paths.IsOnwardDistance, Paths.IsPath}
+use Rattle.aeth_chip.specs.{Paths.Joins, Paths.to_of, declared.node.Link.Link}
+use Rattle.aeth_chip.specs.{declared.node.Node.Node, declared.node.Node.TheVariants.Ni}
+use Rattle.aeth_chip.specs.{declared.node.Node.TheVariants.Router}
 use Rattle.aeth_chip.proofs.JoinedLaws.{end_of-append, end_of-ends, joined-by, joins-length}
 use Rattle.aeth_chip.proofs.LeastOnwardLemmas.{least_onward_is_distance}
 use Rattle.aeth_chip.proofs.NodeLemmas.{same_node-refl}
-use Rattle.aeth_paths.specs.Search.{Field, Walks, is_new, passes}
-use Rattle.aeth_paths.specs.Task.{links_from}
-use Rattle.aeth_paths.specs.Trials.{TrialData}
+use Rattle.aeth_paths.specs.{Search.Field, Search.Walks, Search.is_new, Search.passes}
+use Rattle.aeth_paths.specs.{Task.links_from, Trials.TrialData}
 use Rattle.aeth_paths.proofs.JoinLemmas.{leaving-begins, onward-from-walk, passes-push}
 use Rattle.aeth_paths.proofs.JoinLemmas.{walk-from-route, walks-first, walks-more, walks-one}
 use Rattle.aeth_paths.proofs.StepLemmas.{link-below}
 use Rattle.aeth_paths.proofs.UniqueLemmas.{one-end, one-start, same-ni}
-use Rattle.aeth_explain.specs.Cuts.{begins_with}
-use Rattle.aeth_explain.specs.Fronts.{IsFront, over}
-use Rattle.aeth_explain.specs.Places.{AreWithin}
-use Rattle.aeth_explain.specs.Senders.{IsReach, most_to}
-use Rattle.aeth_explain.specs.TryPaths.{MayTake}
-use Rattle.aeth_explain.specs.Verdict.{is_covered}
-use Rattle.aeth_explain.specs.declared.open_paths.Front.{Front}
-use Rattle.aeth_explain.specs.declared.open_paths.Listed.{Listed}
-use Rattle.aeth_explain.specs.declared.places.Places.{Places}
+use Rattle.aeth_explain.specs.{Cuts.begins_with, Fronts.IsFront, Fronts.over, Places.AreWithin}
+use Rattle.aeth_explain.specs.{Senders.IsReach, Senders.most_to, TryPaths.MayTake}
+use Rattle.aeth_explain.specs.{Verdict.is_covered, declared.open_paths.Front.Front}
+use Rattle.aeth_explain.specs.{declared.open_paths.Listed.Listed, declared.places.Places.Places}
 use Rattle.aeth_explain.proofs.SenderLemmas.{may-most, most-may}
 
 nothing-more : {X P : Type 0} (front : List X) (x : X) (rest : List X) → front ++ x ∷ rest ≡ [] → P

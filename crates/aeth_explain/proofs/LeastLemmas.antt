@@ -1,32 +1,27 @@
 -- The lists of a try are in the order of a dictionary: so are its shortest cuts, and the path that a verdict names is
 -- the least open one.
 use Rattle.std.proofs.Common.{◌≡◌, ◌∙◌, ◌+◌, ◌-◌, ◌<◌, ℕ, zero, suc, Bool, true, false, not, List}
-use Rattle.std.proofs.Common.{[], ◌∷◌, Contains, None, Option, Some, ap, arith, cond, filter, inl, inr, refl}
-use Rattle.std.proofs.Common.{Err, Ok, Result, length, map, subst, sym}
-use Rattle.std.specs.Cmp.{IsTotalOrder, nat_cmp_total, on_total}
-use Rattle.std.specs.List.{AllByRecursion, range_with_len}
-use Rattle.std.specs.List.Sorted.{IsStrictlySortedBy}
-use Rattle.std.specs.Ordering.{nat_cmp, on}
-use Rattle.std.specs.Prelude.{IfOk, IfSome, position}
-use Rattle.std.specs.declared.cmp.Ordering.{Ordering}
-use Rattle.std.specs.declared.cmp.Ordering.TheVariants.{Less}
+use Rattle.std.proofs.Common.{[], ◌∷◌, Contains, None, Option, Some, ap, arith, cond, filter, inl}
+use Rattle.std.proofs.Common.{inr, refl, Err, Ok, Result, length, map, subst, sym, IfOk, IfSome}
+use Rattle.std.proofs.Common.{position}
 use Rattle.std.proofs.lemmas.Bool.{and_from, and_parts, both_ways, false_from_ne_true, not-true}
 use Rattle.std.proofs.lemmas.List.Kept.{IsStrictlySortedBy-filter}
-use Rattle.aeth_base.proofs.Members.{Contains-cases, Contains-filter, Contains-here, filter-Contains}
+use Rattle.std.specs.Cmp.{IsTotalOrder, nat_cmp_total, on_total}
+use Rattle.std.specs.List.{AllByRecursion, range_with_len, Sorted.IsStrictlySortedBy}
+use Rattle.std.specs.Ordering.{nat_cmp, on}
+use Rattle.std.specs.declared.cmp.Ordering.{Ordering, TheVariants.Less}
+use Rattle.aeth_base.proofs.Members.{Contains-cases, Contains-filter, Contains-here}
+use Rattle.aeth_base.proofs.Members.{filter-Contains}
 use Rattle.aeth_base.specs.Limits.{max_path_links}
-use Rattle.aeth_base.specs.declared.ids.LinkId.{LinkId}
-use Rattle.aeth_base.specs.declared.ids.NiId.{NiId}
-use Rattle.aeth_chip.specs.Chip.{ChipData, IsChip}
-use Rattle.aeth_chip.specs.LeastDistance.{link_ids}
-use Rattle.aeth_chip.specs.Nodes.{begins_at, numbers_from, sends_on}
-use Rattle.aeth_chip.specs.Paths.{to_of}
-use Rattle.aeth_chip.specs.declared.node.Link.{Link}
-use Rattle.aeth_chip.specs.declared.node.Node.{Node}
-use Rattle.aeth_chip.specs.declared.node.Node.TheVariants.{Ni, Router}
+use Rattle.aeth_base.specs.declared.ids.{LinkId.LinkId, NiId.NiId}
+use Rattle.aeth_chip.specs.{Chip.ChipData, Chip.IsChip, LeastDistance.link_ids, Nodes.begins_at}
+use Rattle.aeth_chip.specs.{Nodes.numbers_from, Nodes.sends_on, Paths.to_of}
+use Rattle.aeth_chip.specs.{declared.node.Link.Link, declared.node.Node.Node}
+use Rattle.aeth_chip.specs.{declared.node.Node.TheVariants.Ni}
+use Rattle.aeth_chip.specs.{declared.node.Node.TheVariants.Router}
 use Rattle.aeth_group.specs.Members.{GroupsData}
 use Rattle.aeth_group.proofs.ListLemmas.{any_from_passes, passes_from_any}
-use Rattle.aeth_paths.specs.Task.{links_from}
-use Rattle.aeth_paths.specs.Trials.{TrialData}
+use Rattle.aeth_paths.specs.{Task.links_from, Trials.TrialData}
 use Rattle.aeth_explain.specs.Certificate.{certificate_of, cuts_of, has_candidate, is_first_cut}
 use Rattle.aeth_explain.specs.Cuts.{begins_with, is_cut}
 use Rattle.aeth_explain.specs.Order.{Ascend, dictionary}

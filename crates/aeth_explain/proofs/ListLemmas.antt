@@ -1,26 +1,19 @@
 -- Lists of links in the order of a dictionary: what is in them, the lists below a list, and what
 -- of them are shortest cuts.
 use Rattle.std.proofs.Common.{◌≡◌, ◌∙◌, ◌+◌, ◌-◌, ◌<◌, ◌≤◌, ◌++◌, ◌&&◌, ℕ, zero, suc, Bool, true}
-use Rattle.std.proofs.Common.{false, not}
-use Rattle.std.proofs.Common.{List, [], ◌∷◌, length, map, take, Contains, refl, sym, ap, subst}
-use Rattle.std.proofs.Common.{arith}
-use Rattle.std.proofs.Common.{append_assoc, length-append}
-use Rattle.std.specs.List.{flat_map, range_with_len}
+use Rattle.std.proofs.Common.{false, not, List, [], ◌∷◌, length, map, take, Contains, refl, sym, ap}
+use Rattle.std.proofs.Common.{subst, arith, append_assoc, length-append, append-nil}
 use Rattle.std.proofs.Math.Seq.{take-append_seam}
-use Rattle.std.proofs.lemmas.List.{append-nil}
 use Rattle.std.proofs.lemmas.List.Concat.{flat_map-cons}
+use Rattle.std.specs.List.{flat_map, range_with_len}
 use Rattle.aeth_base.specs.declared.ids.LinkId.{LinkId}
 use Rattle.aeth_base.proofs.Members.{Contains-flat_map, Contains-here, Contains-map, Contains-there}
 use Rattle.aeth_base.proofs.Ranges.{Contains-range}
-use Rattle.aeth_group.proofs.ListLemmas.{any_from_passes}
-use Rattle.aeth_chip.specs.Chip.{ChipData}
-use Rattle.aeth_chip.specs.Paths.{to_of}
-use Rattle.aeth_chip.specs.declared.node.Link.{Link}
-use Rattle.aeth_chip.specs.declared.node.Node.{Node}
-use Rattle.aeth_chip.specs.declared.node.Node.TheVariants.{Router, Ni}
-use Rattle.aeth_group.specs.Members.{GroupsData}
-use Rattle.aeth_paths.specs.Task.{links_from}
-use Rattle.aeth_paths.specs.Trials.{TrialData}
+use Rattle.aeth_group.{proofs.ListLemmas.any_from_passes, specs.Members.GroupsData}
+use Rattle.aeth_chip.specs.{Chip.ChipData, Paths.to_of, declared.node.Link.Link}
+use Rattle.aeth_chip.specs.{declared.node.Node.Node, declared.node.Node.TheVariants.Router}
+use Rattle.aeth_chip.specs.{declared.node.Node.TheVariants.Ni}
+use Rattle.aeth_paths.specs.{Task.links_from, Trials.TrialData}
 use Rattle.aeth_explain.specs.TryPaths.{is_dead, onward_lists}
 use Rattle.aeth_explain.specs.Certificate.{goes_on, is_first_cut, shorter_fronts}
 

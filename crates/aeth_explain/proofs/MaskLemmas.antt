@@ -1,33 +1,25 @@
 -- Masks of taken slots: without grants, with one more, and with all; and those of slot tables.
-use Rattle.std.proofs.Common.{◌≡◌, ◌∙◌, ◌<◌, ◌+◌, ◌*◌, ◌&&◌, ◌||◌, ℕ, zero, suc, Bool, true}
-use Rattle.std.proofs.Common.{false, cond}
-use Rattle.std.proofs.Common.{List, [], ◌∷◌, All, Some, length, take, eqb, refl, sym, ap, arith}
-use Rattle.std.proofs.Common.{◌≤◌, ◌++◌, drop, get_or, inl, inr, map, subst}
+use Rattle.std.proofs.Common.{◌≡◌, ◌∙◌, ◌<◌, ◌+◌, ◌*◌, ◌&&◌, ◌||◌, ℕ, zero, suc, Bool, true, false}
+use Rattle.std.proofs.Common.{cond, List, [], ◌∷◌, All, Some, length, take, eqb, refl, sym, ap}
+use Rattle.std.proofs.Common.{arith, ◌≤◌, ◌++◌, drop, get_or, inl, inr, map, subst, slice_get}
+use Rattle.std.proofs.Common.{lt-ltb}
+use Rattle.std.proofs.Math.{Bool.or-false, Nat.mul-le-mul_right}
+use Rattle.std.proofs.lemmas.{Bool.cases_lt, List.Elements.Contains-get_or}
+use Rattle.std.proofs.lemmas.{List.Folds.list_any-append, List.FromFn.get_or-map-range_with_len}
+use Rattle.std.proofs.lemmas.{List.FromFn.length-map-range_with_len, Option.slice_get-get_or}
 use Rattle.std.specs.List.{list_any, range_with_len}
-use Rattle.std.specs.Prelude.{slice_get}
-use Rattle.std.proofs.Math.Bool.{or-false}
-use Rattle.std.proofs.Math.Nat.{mul-le-mul_right}
-use Rattle.std.proofs.lemmas.Bool.{cases_lt, lt-ltb}
-use Rattle.std.proofs.lemmas.List.Elements.{Contains-get_or}
-use Rattle.std.proofs.lemmas.List.Folds.{list_any-append}
-use Rattle.std.proofs.lemmas.List.FromFn.{get_or-map-range_with_len, length-map-range_with_len}
-use Rattle.std.proofs.lemmas.Option.{slice_get-get_or}
-use Rattle.aeth_base.proofs.Filters.{filter-none}
-use Rattle.aeth_base.proofs.Lists.{take-slice_get, written_back}
+use Rattle.aeth_base.proofs.{Filters.filter-none, Lists.take-slice_get, Lists.written_back}
+use Rattle.aeth_base.proofs.{Members.filter-Contains, Ranges.range-Contains}
+use Rattle.aeth_base.proofs.{Ranges.range_with_len-more}
 use Rattle.aeth_base.specs.declared.ids.Unit.{Unit as GroupUnit}
-use Rattle.aeth_base.proofs.Members.{filter-Contains}
-use Rattle.aeth_base.proofs.Ranges.{range-Contains, range_with_len-more}
 use Rattle.aeth_slots.specs.SlotSet.{Slots, has_slot, joined, slots_where}
 use Rattle.aeth_slots.proofs.TestLemmas.{has_slot-where, where-same}
-use Rattle.aeth_chip.specs.Chip.{ChipData}
-use Rattle.aeth_chip.specs.declared.node.Link.{Link}
-use Rattle.aeth_group.specs.Members.{GroupsData, has_unit}
-use Rattle.aeth_group.specs.Occupation.{enters, holds_in}
-use Rattle.aeth_group.specs.Tables.{Changes, IsTable, hits_row, hits_uses}
-use Rattle.aeth_group.specs.declared.grant.Grant.{Grant}
+use Rattle.aeth_chip.specs.{Chip.ChipData, declared.node.Link.Link}
+use Rattle.aeth_group.specs.{Members.GroupsData, Members.has_unit, Occupation.enters}
+use Rattle.aeth_group.specs.{Occupation.holds_in, Tables.Changes, Tables.IsTable, Tables.hits_row}
+use Rattle.aeth_group.specs.{Tables.hits_uses, declared.grant.Grant.Grant}
 use Rattle.aeth_group.proofs.TableLemmas.{either, table-same}
-use Rattle.aeth_book.specs.Book.{BookData}
-use Rattle.aeth_book.specs.Free.{is_rival, uses_with}
+use Rattle.aeth_book.specs.{Book.BookData, Free.is_rival, Free.uses_with}
 use Rattle.aeth_book.proofs.UseLemmas.{taken-uses}
 use Rattle.aeth_paths.specs.Trials.{TrialData, book_of}
 use Rattle.aeth_explain.specs.Masks.{AreTaken, is_held, takes}

@@ -1,32 +1,22 @@
 -- The first open path of some lists: of lists one after another, and of those below a list.
-use Rattle.std.proofs.Common.{◌<◌, arith, length}
-use Rattle.std.proofs.Common.{◌≡◌, ◌∙◌, ◌+◌, ◌++◌, ◌&&◌, ℕ, zero, suc, Bool, true, false, not}
-use Rattle.std.proofs.Common.{List, [], ◌∷◌, Option, None, Some, filter, take, drop}
-use Rattle.std.proofs.Common.{eqb, refl, sym, ap}
-use Rattle.std.specs.List.{flat_map}
-use Rattle.std.specs.Prelude.{slice_get}
+use Rattle.std.proofs.Common.{◌<◌, arith, length, ◌≡◌, ◌∙◌, ◌+◌, ◌++◌, ◌&&◌, ℕ, zero, suc, Bool}
+use Rattle.std.proofs.Common.{true, false, not, List, [], ◌∷◌, Option, None, Some, filter, take}
+use Rattle.std.proofs.Common.{drop, eqb, refl, sym, ap, slice_get, append-nil, take-append-drop}
 use Rattle.std.proofs.Math.Bool.{and-false}
-use Rattle.std.proofs.lemmas.Bool.{and_from, and_parts}
-use Rattle.std.proofs.lemmas.Grind.{flat_map-append}
-use Rattle.std.proofs.lemmas.List.{append-nil, take-append-drop}
-use Rattle.std.proofs.lemmas.List.Elements.{filter-append}
-use Rattle.aeth_base.proofs.Filters.{filter-all_fail, filter-no, filter-yes}
-use Rattle.aeth_base.proofs.Lists.{drop-slice_get, take-slice_get}
-use Rattle.aeth_base.proofs.Members.{map-Contains}
-use Rattle.aeth_base.specs.declared.ids.LinkId.{LinkId}
-use Rattle.aeth_base.specs.declared.ids.NiId.{NiId}
-use Rattle.aeth_base.specs.declared.ids.RouterId.{RouterId}
+use Rattle.std.proofs.lemmas.{Bool.and_from, Bool.and_parts, Grind.flat_map-append}
+use Rattle.std.proofs.lemmas.{List.Elements.filter-append}
+use Rattle.std.specs.List.{flat_map}
+use Rattle.aeth_base.proofs.{Filters.filter-all_fail, Filters.filter-no, Filters.filter-yes}
+use Rattle.aeth_base.proofs.{Lists.drop-slice_get, Lists.take-slice_get, Members.map-Contains}
+use Rattle.aeth_base.specs.declared.ids.{LinkId.LinkId, NiId.NiId, RouterId.RouterId}
 use Rattle.aeth_chip.specs.Chip.{ChipData}
 use Rattle.aeth_chip.specs.Paths.{to_of}
-use Rattle.aeth_chip.specs.declared.node.Node.{Node}
-use Rattle.aeth_chip.specs.declared.node.Node.TheVariants.{Ni, Router}
+use Rattle.aeth_chip.specs.declared.node.Node.{Node, TheVariants.Ni, TheVariants.Router}
 use Rattle.aeth_group.proofs.ListLemmas.{any_from_passes, passes_from_any}
-use Rattle.aeth_paths.specs.Trials.{TrialData}
-use Rattle.aeth_paths.specs.Task.{links_from}
-use Rattle.aeth_explain.specs.Cuts.{begins_with}
-use Rattle.aeth_explain.specs.Fronts.{first_open, lists_below}
-use Rattle.aeth_explain.specs.TryPaths.{may_take, onward_lists}
-use Rattle.aeth_explain.specs.Verdict.{is_covered, is_open}
+use Rattle.aeth_paths.specs.{Trials.TrialData, Task.links_from}
+use Rattle.aeth_explain.specs.{Cuts.begins_with, Fronts.first_open, Fronts.lists_below}
+use Rattle.aeth_explain.specs.{TryPaths.may_take, TryPaths.onward_lists, Verdict.is_covered}
+use Rattle.aeth_explain.specs.{Verdict.is_open}
 use Rattle.aeth_explain.proofs.ListLemmas.{lists-step}
 
 -- ---- the first that passes

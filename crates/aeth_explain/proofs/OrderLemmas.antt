@@ -1,14 +1,11 @@
 -- Lists in the order of a dictionary: those behind elements in order, one element after the other.
-use Rattle.std.proofs.Common.{◌≡◌, ◌∙◌, ◌+◌, ◌<◌, ◌++◌, ℕ, zero, suc, List, []}
-use Rattle.std.proofs.Common.{◌∷◌, Contains, ap, arith, map, refl, subst, sym}
-use Rattle.std.specs.List.{AllByRecursion, flat_map, range_with_len}
-use Rattle.std.specs.List.Sorted.{IsStrictlySortedBy}
-use Rattle.std.specs.Cmp.{IsTotalOrder, nat_cmp_is}
-use Rattle.std.specs.Cmp.Lexicographic.{slice_cmp}
-use Rattle.std.specs.Ordering.{nat_cmp, on, ordering_then}
-use Rattle.std.specs.declared.cmp.Ordering.{Ordering}
-use Rattle.std.specs.declared.cmp.Ordering.TheVariants.{Less}
+use Rattle.std.proofs.Common.{◌≡◌, ◌∙◌, ◌+◌, ◌<◌, ◌++◌, ℕ, zero, suc, List, [], ◌∷◌, Contains, ap}
+use Rattle.std.proofs.Common.{arith, map, refl, subst, sym}
 use Rattle.std.proofs.lemmas.Cmp.{tied_itself}
+use Rattle.std.specs.List.{AllByRecursion, flat_map, range_with_len, Sorted.IsStrictlySortedBy}
+use Rattle.std.specs.Cmp.{IsTotalOrder, nat_cmp_is, Lexicographic.slice_cmp}
+use Rattle.std.specs.Ordering.{nat_cmp, on, ordering_then}
+use Rattle.std.specs.declared.cmp.Ordering.{Ordering, TheVariants.Less}
 
 -- What holds of all of a list holds of each of it.
 each-of : {X : Type 0} (P : X → Type 0) (xs : List X) (x : X) → AllByRecursion P xs

@@ -1,37 +1,27 @@
 -- What comes of one more link: what is open over it.
-use Rattle.std.proofs.Common.{◌-◌, suc, Option, sym, take, inl, inr}
-use Rattle.std.specs.List.{flat_map}
-use Rattle.std.specs.Prelude.{slice_get}
-use Rattle.std.proofs.lemmas.List.{take_all}
+use Rattle.std.proofs.Common.{◌-◌, suc, Option, sym, take, inl, inr, slice_get, take_all, ◌≡◌, ◌∙◌}
+use Rattle.std.proofs.Common.{◌<◌, ◌≤◌, ◌++◌, ◌&&◌, ℕ, true, false, not, List, [], ◌∷◌, Contains}
+use Rattle.std.proofs.Common.{None, Some, length, append_assoc, ap, subst, arith, slice_index}
 use Rattle.std.proofs.lemmas.Option.{none-some, slice_get_cases}
-use Rattle.aeth_explain.specs.Fronts.{IsOver}
-use Rattle.aeth_explain.specs.declared.open_paths.Over.{Over}
-use Rattle.aeth_explain.specs.declared.open_paths.Over.TheVariants.{Away, Onward, Open}
-use Rattle.aeth_explain.proofs.FrontLemmas.{no-path, no-single}
-use Rattle.aeth_explain.proofs.OpenLemmas.{below-none, below-router}
-use Rattle.std.proofs.Common.{◌≡◌, ◌∙◌, ◌<◌, ◌≤◌, ◌++◌, ◌&&◌, ℕ, true, false, not, List, [], ◌∷◌}
-use Rattle.std.proofs.Common.{Contains, None, Some, length, append_assoc, ap, subst, arith}
-use Rattle.std.specs.Prelude.{slice_index}
 use Rattle.std.proofs.lemmas.Bool.{and_from, false_from_ne_true}
-use Rattle.aeth_base.specs.declared.ids.LinkId.{LinkId}
-use Rattle.aeth_base.specs.declared.ids.NiId.{NiId}
-use Rattle.aeth_base.specs.declared.ids.RouterId.{RouterId}
-use Rattle.aeth_chip.specs.Chip.{ChipData}
-use Rattle.aeth_chip.specs.Paths.{to_of}
-use Rattle.aeth_chip.specs.declared.node.Node.{Node}
-use Rattle.aeth_chip.specs.declared.node.Node.TheVariants.{Ni, Router}
-use Rattle.aeth_paths.specs.Search.{passes}
-use Rattle.aeth_paths.specs.Task.{links_from}
-use Rattle.aeth_paths.specs.Trials.{TrialData}
-use Rattle.aeth_explain.specs.Fronts.{IsFront, IsListed, first_open, lists_below, open_over}
+use Rattle.std.specs.List.{flat_map}
+use Rattle.aeth_explain.specs.Fronts.{IsOver, IsFront, IsListed, first_open, lists_below, open_over}
+use Rattle.aeth_explain.specs.declared.open_paths.{Over.Over, Over.TheVariants.Away}
+use Rattle.aeth_explain.specs.declared.open_paths.{Over.TheVariants.Onward, Over.TheVariants.Open}
+use Rattle.aeth_explain.specs.declared.open_paths.{Front.Front, Listed.Listed}
 use Rattle.aeth_explain.specs.Senders.{IsReach, most_to}
 use Rattle.aeth_explain.specs.TryPaths.{MayTake, may_take}
 use Rattle.aeth_explain.specs.Verdict.{is_covered, is_open}
-use Rattle.aeth_explain.specs.declared.open_paths.Front.{Front}
-use Rattle.aeth_explain.specs.declared.open_paths.Listed.{Listed}
-use Rattle.aeth_explain.proofs.FrontLemmas.{may-there, not-again, there-may, too-far}
-use Rattle.aeth_explain.proofs.OpenLemmas.{below-ni, covered-closed, first-behind, first-here, none-below}
+use Rattle.aeth_explain.proofs.FrontLemmas.{no-path, no-single, may-there, not-again, there-may}
+use Rattle.aeth_explain.proofs.FrontLemmas.{too-far}
+use Rattle.aeth_explain.proofs.OpenLemmas.{below-none, below-router, below-ni, covered-closed}
+use Rattle.aeth_explain.proofs.OpenLemmas.{first-behind, first-here, none-below}
 use Rattle.aeth_explain.proofs.TryPathLemmas.{may_take-Decides}
+use Rattle.aeth_base.specs.declared.ids.{LinkId.LinkId, NiId.NiId, RouterId.RouterId}
+use Rattle.aeth_chip.specs.Chip.{ChipData}
+use Rattle.aeth_chip.specs.Paths.{to_of}
+use Rattle.aeth_chip.specs.declared.node.Node.{Node, TheVariants.Ni, TheVariants.Router}
+use Rattle.aeth_paths.specs.{Search.passes, Task.links_from, Trials.TrialData}
 
 -- What the try may not take isn't open.
 pub closed : (chip : ChipData) (trial : TrialData) (cuts : List (List LinkId)) (path : List LinkId)

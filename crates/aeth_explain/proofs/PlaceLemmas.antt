@@ -1,16 +1,13 @@
 -- Between which places the lists are that begin with a path, and those with which it begins.
-use Rattle.std.proofs.Common.{◌≡◌, ◌≤◌, ◌++◌, ◌⊎◌, Bool, true, false, List, [], ◌∷◌, arith, eqb, inl}
-use Rattle.std.proofs.Common.{inr, refl, sym}
+use Rattle.std.proofs.Common.{◌≡◌, ◌≤◌, ◌++◌, ◌⊎◌, Bool, true, false, List, [], ◌∷◌, arith, eqb}
+use Rattle.std.proofs.Common.{inl, inr, refl, sym, eq-eqb, eqb-true}
+use Rattle.std.proofs.lemmas.Bool.{and_from, and_parts, false_from_ne_true}
 use Rattle.std.specs.List.{list_any}
-use Rattle.std.proofs.lemmas.Bool.{and_from, and_parts, eq-eqb, eqb-true, false_from_ne_true}
-use Rattle.aeth_base.proofs.ExtremeLemmas.{true_and_false}
-use Rattle.aeth_base.proofs.Members.{Contains-slice_get, slice_get-Contains}
-use Rattle.aeth_base.specs.declared.ids.LinkId.{LinkId}
+use Rattle.aeth_base.{proofs.ExtremeLemmas.true_and_false, proofs.Members.Contains-slice_get}
+use Rattle.aeth_base.{proofs.Members.slice_get-Contains, specs.declared.ids.LinkId.LinkId}
 use Rattle.aeth_group.proofs.ListLemmas.{any_from_passes, passes_from_any}
-use Rattle.aeth_explain.specs.Cuts.{begins_with}
-use Rattle.aeth_explain.specs.Places.{AreWithin}
-use Rattle.aeth_explain.specs.Verdict.{is_covered}
-use Rattle.aeth_explain.specs.declared.places.Places.{Places}
+use Rattle.aeth_explain.specs.{Cuts.begins_with, Places.AreWithin, Verdict.is_covered}
+use Rattle.aeth_explain.specs.{declared.places.Places.Places}
 
 -- Of two lists with which a path begins one begins with the other.
 begins-either : (cut front rest : List LinkId) → begins_with cut (front ++ rest) ≡ true

@@ -1,13 +1,12 @@
 -- The place of the first element that passes a test.
 use Rattle.std.proofs.Common.{◌≡◌, ◌∙◌, ◌<◌, ℕ, Bool, true, false, List, [], ◌∷◌, None, Some}
-use Rattle.std.proofs.Common.{Contains}
-use Rattle.std.proofs.Common.{cond, get_or, length, ltb, refl, sym, ap, arith}
-use Rattle.std.specs.List.{position_or_len}
-use Rattle.std.specs.Prelude.{position, slice_get}
-use Rattle.std.proofs.lemmas.Bool.{both_ways, lt-ltb, ltb-false, ltb-true}
+use Rattle.std.proofs.Common.{Contains, cond, get_or, length, ltb, refl, sym, ap, arith, position}
+use Rattle.std.proofs.Common.{slice_get, lt-ltb, ltb-false, ltb-true}
+use Rattle.std.proofs.lemmas.Bool.{both_ways}
 use Rattle.std.proofs.lemmas.List.Elements.{Contains-get_or}
 use Rattle.std.proofs.lemmas.List.Sums.{fails_before_first, passes_at_first, position_or_len_is}
 use Rattle.std.proofs.lemmas.Option.{get_or_from_slice_get, none-some, slice_get_within}
+use Rattle.std.specs.List.{position_or_len}
 
 -- Where no element passes a test, each fails it.
 pub none-passes : {X : Type 0} (test : X → Bool) (xs : List X) → position test xs ≡ None → (x : X)

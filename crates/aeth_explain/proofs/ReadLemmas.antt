@@ -1,29 +1,24 @@
 -- What is known of lists that were read: their links are the chip's, and each try has some.
-use Rattle.std.proofs.Common.{◌≡◌, ◌<◌, ℕ, suc, Bool, true, false, List, [], ◌∷◌, All, Result, Ok, Err}
-use Rattle.std.proofs.Common.{Option, length, ap, cond, refl, subst}
-use Rattle.std.specs.Prelude.{IfOk, nat_lt}
-use Rattle.std.specs.List.{AllByRecursion, list_all}
+use Rattle.std.proofs.Common.{◌≡◌, ◌<◌, ℕ, suc, Bool, true, false, List, [], ◌∷◌, All, Result, Ok}
+use Rattle.std.proofs.Common.{Err, Option, length, ap, cond, refl, subst, IfOk, nat_lt}
 use Rattle.std.proofs.lemmas.List.Elements.{All-from_recursion}
-use Rattle.aeth_app.specs.App.{AppData}
-use Rattle.aeth_app.specs.Connections.{connection_names}
-use Rattle.aeth_base.specs.Faults.{BrokenRule, Reads}
-use Rattle.aeth_base.specs.declared.ids.LinkId.{LinkId}
+use Rattle.std.specs.List.{AllByRecursion, list_all}
+use Rattle.aeth_app.specs.{App.AppData, Connections.connection_names}
+use Rattle.aeth_base.specs.{Faults.BrokenRule, Faults.Reads, declared.ids.LinkId.LinkId}
 use Rattle.aeth_chip.specs.Chip.{ChipData}
 use Rattle.aeth_group.specs.Members.{GroupsData}
 use Rattle.aeth_plan.specs.Rules.{each, found, holds, place_among}
+use Rattle.aeth_plan.proofs.{Chains.ok_is, Places.all_below, Places.holds_ok}
 use Rattle.aeth_document.proofs.ChainLemmas.{bind_ok}
-use Rattle.aeth_plan.proofs.Chains.{ok_is}
-use Rattle.aeth_plan.proofs.Places.{all_below, holds_ok}
 use Rattle.aeth_text.specs.Order.{line_after}
 use Rattle.aeth_explain.specs.CutsFaults.{wrong_try}
-use Rattle.aeth_explain.specs.CutsText.{AreLinksOf, blocks_of, cuts_behind, cuts_of_text, known_line}
-use Rattle.aeth_explain.specs.CutsText.{matched, same_try}
+use Rattle.aeth_explain.specs.CutsText.{AreLinksOf, blocks_of, cuts_behind, cuts_of_text}
+use Rattle.aeth_explain.specs.CutsText.{known_line, matched, same_try}
 use Rattle.aeth_explain.specs.Texts.{text_of}
 use Rattle.aeth_explain.specs.declared.text_lines.LineText.{LineText}
 use Rattle.aeth_explain.specs.declared.text_lines.LineText.TheVariants.{Cut, Try}
-use Rattle.aeth_explain.specs.declared.try_line.KnownLine.{KnownLine}
-use Rattle.aeth_explain.specs.declared.try_line.KnownLine.TheVariants.{Listed, Tried}
-use Rattle.aeth_explain.specs.declared.try_line.TryLine.{TryLine}
+use Rattle.aeth_explain.specs.declared.try_line.{KnownLine.KnownLine, KnownLine.TheVariants.Listed}
+use Rattle.aeth_explain.specs.declared.try_line.{KnownLine.TheVariants.Tried, TryLine.TryLine}
 
 -- What holds of the value that a text has holds of what was read.
 pub if-read : {X Y E : Type 0} (P : Y → Type 0) (rule_of : E → Option BrokenRule) (view : X → Y) (result : Result X E)

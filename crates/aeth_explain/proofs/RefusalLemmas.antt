@@ -1,28 +1,22 @@
 -- A try has a certificate exactly where it has no candidate; and what is listed are the shortest
 -- cuts.
-use Rattle.std.proofs.Common.{◌≡◌, ◌↔◌, ◌++◌, ◌&&◌, Bool, true, false, not, cond}
-use Rattle.std.proofs.Common.{List, Option, None, Some, Contains, length}
-use Rattle.std.proofs.Common.{refl, ap, subst, arith}
-use Rattle.std.specs.Bool.{Decides}
-use Rattle.std.specs.Prelude.{IsSome, MatchOption}
+use Rattle.std.proofs.Common.{◌≡◌, ◌↔◌, ◌++◌, ◌&&◌, Bool, true, false, not, cond, List, Option}
+use Rattle.std.proofs.Common.{None, Some, Contains, length, refl, ap, subst, arith, IsSome}
+use Rattle.std.proofs.Common.{MatchOption}
 use Rattle.std.proofs.Math.Seq.{take-length}
-use Rattle.std.proofs.lemmas.Bool.{and_from, and_parts, both_ways, false_from_ne_true}
-use Rattle.std.proofs.lemmas.Bool.{not-true}
+use Rattle.std.proofs.lemmas.Bool.{and_from, and_parts, both_ways, false_from_ne_true, not-true}
 use Rattle.std.proofs.lemmas.List.Elements.{Contains-get_or}
+use Rattle.std.specs.Bool.{Decides}
 use Rattle.aeth_base.specs.declared.ids.LinkId.{LinkId}
 use Rattle.aeth_slots.proofs.ChoiceLemmas.{chosen-whole, is_suitable-true}
 use Rattle.aeth_slots.specs.SlotSet.{Slots}
-use Rattle.aeth_chip.specs.Chip.{ChipData, IsChip}
-use Rattle.aeth_chip.specs.Paths.{BeginsAt}
-use Rattle.aeth_chip.specs.declared.node.Node.{Node}
+use Rattle.aeth_chip.specs.{Chip.ChipData, Chip.IsChip, Paths.BeginsAt, declared.node.Node.Node}
 use Rattle.aeth_group.specs.Members.{GroupsData}
 use Rattle.aeth_group.proofs.ListLemmas.{any_from_passes, passes_from_any}
-use Rattle.aeth_book.specs.Book.{BookData}
-use Rattle.aeth_book.specs.Free.{free_starts}
-use Rattle.aeth_paths.specs.Candidates.{IsCandidate, gap_on, is_live, slots_of}
-use Rattle.aeth_paths.specs.Task.{links_from}
-use Rattle.aeth_paths.specs.Trials.{IsSized, TrialData, book_of}
-use Rattle.aeth_paths.specs.declared.request.Found.{Found}
+use Rattle.aeth_book.specs.{Book.BookData, Free.free_starts}
+use Rattle.aeth_paths.specs.{Candidates.IsCandidate, Candidates.gap_on, Candidates.is_live}
+use Rattle.aeth_paths.specs.{Candidates.slots_of, Task.links_from, Trials.IsSized, Trials.TrialData}
+use Rattle.aeth_paths.specs.{Trials.book_of, declared.request.Found.Found}
 use Rattle.aeth_paths.proofs.CandidateLemmas.{slots-live}
 use Rattle.aeth_paths.proofs.JoinLemmas.{begins-leaving, leaving-begins}
 use Rattle.aeth_paths.proofs.LiveLemmas.{dead-stays, free_starts-set}

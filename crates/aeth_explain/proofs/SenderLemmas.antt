@@ -1,31 +1,22 @@
 -- The most links of a path: the try may take a path between two interfaces exactly where it has no
 -- more links than that.
-use Rattle.std.proofs.Common.{◌<◌, ◌++◌, ◌∷◌, []}
-use Rattle.std.specs.Prelude.{slice_index}
-use Rattle.std.proofs.Math.ListN.{get_or-append}
-use Rattle.std.proofs.Math.Seq.{get_or-append_seam}
-use Rattle.aeth_base.specs.declared.ids.RouterId.{RouterId}
-use Rattle.aeth_chip.specs.Paths.{IsOnward, IsOnwardDistance}
-use Rattle.aeth_chip.specs.declared.node.Link.{Link}
-use Rattle.aeth_chip.proofs.LeastDistanceLemmas.{IsLeast-unique}
-use Rattle.std.proofs.Common.{◌≡◌, ◌∙◌, ◌≤◌, ◌+◌, ◌&&◌, ℕ, Bool, true, false, not, List, Option, None, Some}
-use Rattle.std.proofs.Common.{Contains, length, cond, eqb, refl, sym, ap, subst, arith}
+use Rattle.std.proofs.Common.{◌<◌, ◌++◌, ◌∷◌, [], slice_index, ◌≡◌, ◌∙◌, ◌≤◌, ◌+◌, ◌&&◌, ℕ, Bool}
+use Rattle.std.proofs.Common.{true, false, not, List, Option, None, Some, Contains, length, cond}
+use Rattle.std.proofs.Common.{eqb, refl, sym, ap, subst, arith, eq-eqb}
+use Rattle.std.proofs.Math.{ListN.get_or-append, Seq.get_or-append_seam}
+use Rattle.std.proofs.lemmas.Bool.{and_from, and_parts, not-true}
 use Rattle.std.specs.List.{list_any}
-use Rattle.std.proofs.lemmas.Bool.{and_from, and_parts, eq-eqb, not-true}
+use Rattle.aeth_base.specs.declared.ids.{RouterId.RouterId, LinkId.LinkId, NiId.NiId}
 use Rattle.aeth_base.specs.Limits.{max_path_links}
-use Rattle.aeth_base.specs.declared.ids.LinkId.{LinkId}
-use Rattle.aeth_base.specs.declared.ids.NiId.{NiId}
-use Rattle.aeth_chip.specs.Chip.{ChipData, IsChip}
-use Rattle.aeth_chip.specs.LeastDistance.{least_distance}
-use Rattle.aeth_chip.specs.Paths.{IsDistance, IsPath}
-use Rattle.aeth_chip.proofs.LeastDistanceLemmas.{distance_is_least_distance}
+use Rattle.aeth_chip.specs.{Paths.IsOnward, Paths.IsOnwardDistance, Paths.IsDistance, Paths.IsPath}
+use Rattle.aeth_chip.specs.{declared.node.Link.Link, Chip.ChipData, Chip.IsChip}
+use Rattle.aeth_chip.specs.{LeastDistance.least_distance}
+use Rattle.aeth_chip.proofs.LeastDistanceLemmas.{IsLeast-unique, distance_is_least_distance}
 use Rattle.aeth_chip.proofs.LeastDistanceLemmas.{least_distance_is_distance}
 use Rattle.aeth_group.proofs.ListLemmas.{any_from_passes}
-use Rattle.aeth_paths.specs.Open.{is_crowded}
-use Rattle.aeth_paths.specs.Trials.{TrialData}
+use Rattle.aeth_paths.specs.{Open.is_crowded, Trials.TrialData}
 use Rattle.aeth_paths.proofs.CandidateLemmas.{from-room, room-from}
-use Rattle.aeth_explain.specs.Senders.{most_by, most_to}
-use Rattle.aeth_explain.specs.TryPaths.{MayTake}
+use Rattle.aeth_explain.specs.{Senders.most_by, Senders.most_to, TryPaths.MayTake}
 use Rattle.aeth_explain.proofs.FirstLemmas.{from-among}
 
 -- Whether an interface is one of some, and a pair isn't one crowded interface.

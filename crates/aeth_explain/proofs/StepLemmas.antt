@@ -1,42 +1,32 @@
 -- A walk that certifies, step by step: a list that has come to a router, and one more link.
-use Rattle.std.proofs.Common.{◌≡◌, ◌∙◌, ◌+◌, ◌-◌, ◌<◌, ◌≤◌, ◌++◌, ℕ, suc, Bool, true, false, List, []}
-use Rattle.std.proofs.Common.{◌∷◌, All, Contains, Err, None, Ok, Option, Result, Some, ap, arith, cond}
-use Rattle.std.proofs.Common.{filter, length, length-append, subst, sym, take}
+use Rattle.std.proofs.Common.{◌≡◌, ◌∙◌, ◌+◌, ◌-◌, ◌<◌, ◌≤◌, ◌++◌, ℕ, suc, Bool, true, false, List}
+use Rattle.std.proofs.Common.{[], ◌∷◌, All, Contains, Err, None, Ok, Option, Result, Some, ap}
+use Rattle.std.proofs.Common.{arith, cond, filter, length, length-append, subst, sym, take, IfOk}
+use Rattle.std.proofs.Common.{MatchOption, option_map, slice_get, take_all}
 use Rattle.std.specs.List.{flat_map, list_any}
-use Rattle.std.specs.Prelude.{IfOk, MatchOption, option_map, slice_get}
-use Rattle.std.proofs.lemmas.List.{take_all}
 use Rattle.aeth_base.specs.Limits.{max_path_links}
-use Rattle.aeth_base.specs.declared.ids.LinkId.{LinkId}
-use Rattle.aeth_base.specs.declared.ids.NiId.{NiId}
-use Rattle.aeth_base.specs.declared.ids.RouterId.{RouterId}
+use Rattle.aeth_base.specs.declared.ids.{LinkId.LinkId, NiId.NiId, RouterId.RouterId}
 use Rattle.aeth_base.proofs.Members.{Contains-slice_get}
-use Rattle.aeth_chip.specs.Chip.{ChipData, IsChip}
-use Rattle.aeth_chip.specs.Nodes.{sends_on}
-use Rattle.aeth_chip.specs.Paths.{to_of}
-use Rattle.aeth_chip.specs.declared.node.Link.{Link}
-use Rattle.aeth_chip.specs.declared.node.Node.{Node}
-use Rattle.aeth_chip.specs.declared.node.Node.TheVariants.{Ni, Router}
-use Rattle.aeth_chip.proofs.JoinedLaws.{end_of-append}
+use Rattle.aeth_chip.{specs.Chip.ChipData, specs.Chip.IsChip, specs.Nodes.sends_on}
+use Rattle.aeth_chip.{specs.Paths.to_of, specs.declared.node.Link.Link}
+use Rattle.aeth_chip.{specs.declared.node.Node.Node, specs.declared.node.Node.TheVariants.Ni}
+use Rattle.aeth_chip.{specs.declared.node.Node.TheVariants.Router, proofs.JoinedLaws.end_of-append}
 use Rattle.aeth_group.specs.Members.{GroupsData}
-use Rattle.aeth_paths.specs.Task.{links_from}
-use Rattle.aeth_paths.specs.Trials.{TrialData}
-use Rattle.aeth_paths.proofs.PrefixLemmas.{link-at}
+use Rattle.aeth_paths.{specs.Task.links_from, specs.Trials.TrialData, proofs.PrefixLemmas.link-at}
 use Rattle.aeth_explain.specs.Certificate.{certificate_of, cuts_of, is_first_cut, shorter_fronts}
 use Rattle.aeth_explain.specs.Cuts.{HasCandidate, IsCertificate}
 use Rattle.aeth_explain.specs.Fronts.{IsFront, IsLonger, first_open, lists_below, open_over}
 use Rattle.aeth_explain.specs.Masks.{TryJudgeData}
 use Rattle.aeth_explain.specs.TryPaths.{MayTake, is_dead, leaving_lists, may_take}
 use Rattle.aeth_explain.specs.Walks.{IsTried, IsWalked, may_have}
-use Rattle.aeth_explain.specs.declared.open_paths.Front.{Front}
-use Rattle.aeth_explain.specs.declared.open_paths.Listed.{Listed}
-use Rattle.aeth_explain.proofs.BelowLemmas.{first-is, live-fronts, path-goes, walked-alone}
-use Rattle.aeth_explain.proofs.BelowLemmas.{walked-closed, walked-never}
-use Rattle.aeth_explain.proofs.FrontLemmas.{no-path, no-single}
-use Rattle.aeth_explain.proofs.ListLemmas.{GoesOn}
-use Rattle.aeth_explain.proofs.OpenLemmas.{below-none, below-router}
-use Rattle.aeth_explain.proofs.OverLemmas.{none-past}
-use Rattle.aeth_explain.proofs.RefusalLemmas.{certificate-is}
-use Rattle.aeth_explain.proofs.WalkLemmas.{walked-on}
+use Rattle.aeth_explain.specs.declared.open_paths.{Front.Front, Listed.Listed}
+use Rattle.aeth_explain.proofs.{BelowLemmas.first-is, BelowLemmas.live-fronts}
+use Rattle.aeth_explain.proofs.{BelowLemmas.path-goes, BelowLemmas.walked-alone}
+use Rattle.aeth_explain.proofs.{BelowLemmas.walked-closed, BelowLemmas.walked-never}
+use Rattle.aeth_explain.proofs.{FrontLemmas.no-path, FrontLemmas.no-single, ListLemmas.GoesOn}
+use Rattle.aeth_explain.proofs.{OpenLemmas.below-none, OpenLemmas.below-router}
+use Rattle.aeth_explain.proofs.{OverLemmas.none-past, RefusalLemmas.certificate-is}
+use Rattle.aeth_explain.proofs.{WalkLemmas.walked-on}
 
 module _ (judge : TryJudgeData) (listed : Listed) (is : IsTried judge listed) where
   abbrev chip : ChipData

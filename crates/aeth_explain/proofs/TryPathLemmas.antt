@@ -1,24 +1,15 @@
 -- Which paths a try may take: the test decides the fact; and links that begin at a node are among
 -- all.
 use Rattle.std.proofs.Common.{◌≡◌, ◌&&◌, Bool, true, List, Contains, length, not, ap, arith}
-use Rattle.std.specs.Bool.{Decides}
-use Rattle.std.specs.List.{list_any, range_with_len}
-use Rattle.std.proofs.lemmas.Bool.{and_from, and_parts, not-true}
-use Rattle.std.proofs.lemmas.Option.{slice_get_within}
-use Rattle.aeth_base.proofs.Members.{Contains-map}
-use Rattle.aeth_base.proofs.Ranges.{Contains-range}
-use Rattle.aeth_base.specs.declared.ids.LinkId.{LinkId}
-use Rattle.aeth_base.specs.declared.ids.NiId.{NiId}
-use Rattle.aeth_chip.specs.Chip.{ChipData, IsChip}
-use Rattle.aeth_chip.specs.LeastDistance.{link_ids}
-use Rattle.aeth_chip.specs.Paths.{BeginsAt}
-use Rattle.aeth_chip.specs.declared.node.Link.{Link}
-use Rattle.aeth_chip.specs.declared.node.Node.{Node}
+use Rattle.std.proofs.lemmas.{Bool.and_from, Bool.and_parts, Bool.not-true, Option.slice_get_within}
+use Rattle.std.specs.{Bool.Decides, List.list_any, List.range_with_len}
+use Rattle.aeth_base.proofs.{Members.Contains-map, Ranges.Contains-range}
+use Rattle.aeth_base.specs.declared.ids.{LinkId.LinkId, NiId.NiId}
+use Rattle.aeth_chip.specs.{Chip.ChipData, Chip.IsChip, LeastDistance.link_ids, Paths.BeginsAt}
+use Rattle.aeth_chip.specs.{declared.node.Link.Link, declared.node.Node.Node}
 use Rattle.aeth_group.proofs.ListLemmas.{any_from_passes, passes_from_any}
-use Rattle.aeth_check.specs.Routes.{is_admissible}
-use Rattle.aeth_check.proofs.RouteLaws.{is_admissible-Decides}
-use Rattle.aeth_paths.specs.Open.{is_crowded}
-use Rattle.aeth_paths.specs.Trials.{TrialData}
+use Rattle.aeth_check.{specs.Routes.is_admissible, proofs.RouteLaws.is_admissible-Decides}
+use Rattle.aeth_paths.specs.{Open.is_crowded, Trials.TrialData}
 use Rattle.aeth_paths.proofs.CandidateLemmas.{from-room, room-from}
 use Rattle.aeth_explain.specs.TryPaths.{MayTake, may_take}
 

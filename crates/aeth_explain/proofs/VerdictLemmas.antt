@@ -1,30 +1,19 @@
 -- What is found of a certificate: that it is complete exactly where it is one; else the first list
 -- that is no cut, or an open path.
-use Rattle.std.proofs.Common.{◌+◌, drop}
-use Rattle.std.proofs.Common.{◌≡◌, ◌∙◌, ◌&&◌, ◌↔◌, ℕ, Bool, true, false, not}
-use Rattle.std.proofs.Common.{List, [], ◌∷◌, Option, None, Some, Contains, length, slice_get}
-use Rattle.std.proofs.Common.{filter, refl, sym, ap, subst, get_or, leb}
-use Rattle.std.specs.Bool.{Decides}
-use Rattle.std.specs.List.{list_any}
-use Rattle.std.specs.List.Sorted.{IsPermutation}
-use Rattle.std.specs.Prelude.{position}
-use Rattle.std.proofs.lemmas.List.Elements.{Contains-get_or}
-use Rattle.std.proofs.lemmas.List.Sorted.{list_any-IsPermutation}
-use Rattle.std.proofs.lemmas.Bool.{and_from, and_parts, both_ways, false≢true}
-use Rattle.std.proofs.lemmas.Bool.{le-leb, leb-true, not-false, not-true}
+use Rattle.std.proofs.Common.{◌+◌, drop, ◌≡◌, ◌∙◌, ◌&&◌, ◌↔◌, ℕ, Bool, true, false, not, List, []}
+use Rattle.std.proofs.Common.{◌∷◌, Option, None, Some, Contains, length, slice_get, filter, refl}
+use Rattle.std.proofs.Common.{sym, ap, subst, get_or, leb, position, le-leb, leb-true}
+use Rattle.std.proofs.lemmas.List.{Elements.Contains-get_or, Sorted.list_any-IsPermutation}
+use Rattle.std.proofs.lemmas.Bool.{and_from, and_parts, both_ways, false≢true, not-false, not-true}
 use Rattle.std.proofs.lemmas.Option.{same_Some}
+use Rattle.std.specs.{Bool.Decides, List.list_any, List.Sorted.IsPermutation}
 use Rattle.aeth_base.proofs.Lists.{drop-slice_get}
 use Rattle.aeth_base.proofs.Members.{Contains-filter, Contains-here, Contains-nil, filter-Contains}
-use Rattle.aeth_base.specs.declared.ids.LinkId.{LinkId}
-use Rattle.aeth_base.specs.declared.ids.NiId.{NiId}
-use Rattle.aeth_chip.specs.Chip.{ChipData, IsChip}
-use Rattle.aeth_chip.specs.Joined.{IsJoined}
-use Rattle.aeth_chip.specs.Nodes.{begins_at}
-use Rattle.aeth_chip.specs.PathTests.{link_passes}
-use Rattle.aeth_chip.specs.Paths.{BeginsAt, to_in, to_of}
-use Rattle.aeth_chip.specs.declared.node.Link.{Link}
-use Rattle.aeth_chip.specs.declared.node.Node.{Node}
-use Rattle.aeth_chip.specs.declared.node.Node.TheVariants.{Ni}
+use Rattle.aeth_base.specs.declared.ids.{LinkId.LinkId, NiId.NiId}
+use Rattle.aeth_chip.specs.{Chip.ChipData, Chip.IsChip, Joined.IsJoined, Nodes.begins_at}
+use Rattle.aeth_chip.specs.{PathTests.link_passes, Paths.BeginsAt, Paths.to_in, Paths.to_of}
+use Rattle.aeth_chip.specs.{declared.node.Link.Link, declared.node.Node.Node}
+use Rattle.aeth_chip.specs.{declared.node.Node.TheVariants.Ni}
 use Rattle.aeth_chip.proofs.NodeLemmas.{same_node-refl, same_node-true}
 use Rattle.aeth_group.specs.Members.{GroupsData}
 use Rattle.aeth_group.proofs.ListLemmas.{any_from_passes, passes_from_any}
@@ -34,9 +23,8 @@ use Rattle.aeth_explain.specs.Cuts.{is_cut}
 use Rattle.aeth_explain.specs.TryPaths.{MayTake, leaving_lists, may_take}
 use Rattle.aeth_explain.specs.Verdict.{by_cut, by_open, is_covered, open_paths, verdict_of}
 use Rattle.aeth_explain.specs.declared.verdict.CutVerdict.TheVariants.{Complete, NotDead, Open}
-use Rattle.aeth_explain.proofs.PositionLemmas.{none-passes, passes-none}
-use Rattle.aeth_explain.proofs.RefusalLemmas.{path-listed}
-use Rattle.aeth_explain.proofs.TryPathLemmas.{may_take-Decides}
+use Rattle.aeth_explain.proofs.{PositionLemmas.none-passes, PositionLemmas.passes-none}
+use Rattle.aeth_explain.proofs.{RefusalLemmas.path-listed, TryPathLemmas.may_take-Decides}
 
 -- ---- cuts
 

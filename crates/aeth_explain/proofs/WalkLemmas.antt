@@ -1,21 +1,16 @@
 -- What a walk comes to over lists one after another, as over the links that leave a router.
-use Rattle.std.proofs.Common.{◌≡◌, ◌∙◌, ◌+◌, ◌++◌, ◌||◌, ℕ, Bool, true, false, List, Contains}
-use Rattle.std.proofs.Common.{Some, append_assoc, ap, drop, filter, subst, sym, take}
-use Rattle.std.specs.List.{flat_map, list_any}
-use Rattle.std.specs.Prelude.{slice_get}
+use Rattle.std.proofs.Common.{◌≡◌, ◌∙◌, ◌+◌, ◌++◌, ◌||◌, ℕ, Bool, true, false, List, Contains, Some}
+use Rattle.std.proofs.Common.{append_assoc, ap, drop, filter, subst, sym, take, slice_get}
+use Rattle.std.proofs.Common.{append-nil, take-append-drop}
 use Rattle.std.proofs.lemmas.Bool.{both_ways, false_from_ne_true, or_left, or_right}
 use Rattle.std.proofs.lemmas.Grind.{flat_map-append}
-use Rattle.std.proofs.lemmas.List.{append-nil, take-append-drop}
-use Rattle.std.proofs.lemmas.List.Elements.{filter-append}
-use Rattle.std.proofs.lemmas.List.Folds.{list_any-append}
-use Rattle.aeth_base.specs.declared.ids.LinkId.{LinkId}
-use Rattle.aeth_base.proofs.Filters.{filter-all_fail}
+use Rattle.std.proofs.lemmas.List.{Elements.filter-append, Folds.list_any-append}
+use Rattle.std.specs.List.{flat_map, list_any}
+use Rattle.aeth_base.{specs.declared.ids.LinkId.LinkId, proofs.Filters.filter-all_fail}
 use Rattle.aeth_chip.specs.Chip.{ChipData}
-use Rattle.aeth_group.specs.Members.{GroupsData}
-use Rattle.aeth_group.proofs.ListLemmas.{passes_from_any}
+use Rattle.aeth_group.{specs.Members.GroupsData, proofs.ListLemmas.passes_from_any}
 use Rattle.aeth_paths.specs.Trials.{TrialData}
-use Rattle.aeth_explain.specs.Certificate.{is_first_cut}
-use Rattle.aeth_explain.specs.Walks.{IsWalked, may_have}
+use Rattle.aeth_explain.specs.{Certificate.is_first_cut, Walks.IsWalked, Walks.may_have}
 use Rattle.aeth_explain.proofs.OpenLemmas.{one-more}
 
 module _ (chip : ChipData) (groups : GroupsData) (trial : TrialData) where

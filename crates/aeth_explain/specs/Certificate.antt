@@ -3,15 +3,13 @@
 --   IsFirstCut, is_first_cut      a shortest cut, as a fact and as a test
 --   cuts_of      all of them, in the order of a dictionary
 --   has_candidate, certificate_of      the certificate of a try that has no candidate
-use Rattle.std.specs.Prelude.{◌≡◌, ◌≤◌, ◌<◌, ◌+◌, ◌-◌, ◌&&◌, ℕ, Bool, true, false, not, List}
-use Rattle.std.specs.Prelude.{length}
-use Rattle.std.specs.Prelude.{filter, if◌then◌else◌, map, Option, Some, None, take}
+use Rattle.std.proofs.Common.{◌≡◌, ◌≤◌, ◌<◌, ◌+◌, ◌-◌, ◌&&◌, ℕ, Bool, true, false, not, List}
+use Rattle.std.proofs.Common.{length, filter, if◌then◌else◌, map, Option, Some, None, take}
 use Rattle.std.specs.List.{list_any, range_with_len}
 use Rattle.aeth_base.specs.declared.ids.LinkId.{LinkId}
 use Rattle.aeth_chip.specs.Chip.{ChipData}
 use Rattle.aeth_group.specs.Members.{GroupsData}
-use Rattle.aeth_paths.specs.Candidates.{is_live}
-use Rattle.aeth_paths.specs.Trials.{TrialData, book_of}
+use Rattle.aeth_paths.specs.{Candidates.is_live, Trials.TrialData, Trials.book_of}
 use Rattle.aeth_explain.specs.Cuts.{begins_with}
 use Rattle.aeth_explain.specs.TryPaths.{MayTake, is_dead, leaving_lists, may_take}
 

@@ -4,24 +4,16 @@
 --   IsCut, is_cut      joined links from a sender that are dead, as a fact and as a test
 --   IsComplete, IsCertificate      each path that the try may take begins with one
 --   HasCandidate      the try could have been granted
-use Rattle.std.specs.Prelude.{◌≡◌, ◌≤◌, ◌&&◌, ◌==◌, nat_le, Bool, true, false, List, [], ◌∷◌}
-use Rattle.std.specs.Prelude.{length}
-use Rattle.std.specs.Prelude.{All, Contains, slice_get}
+use Rattle.std.proofs.Common.{◌≡◌, ◌≤◌, ◌&&◌, ◌==◌, nat_le, Bool, true, false, List, [], ◌∷◌}
+use Rattle.std.proofs.Common.{length, All, Contains, slice_get}
 use Rattle.std.specs.List.{list_any}
-use Rattle.aeth_base.specs.declared.ids.LinkId.{LinkId}
-use Rattle.aeth_base.specs.declared.ids.NiId.{NiId}
-use Rattle.aeth_chip.specs.Chip.{ChipData}
-use Rattle.aeth_chip.specs.Joined.{IsJoined}
-use Rattle.aeth_chip.specs.Nodes.{begins_at}
-use Rattle.aeth_chip.specs.PathTests.{link_passes}
-use Rattle.aeth_chip.specs.Paths.{BeginsAt, to_of}
-use Rattle.aeth_chip.specs.declared.node.Link.{Link}
-use Rattle.aeth_chip.specs.declared.node.Node.{Node}
-use Rattle.aeth_chip.specs.declared.node.Node.TheVariants.{Ni}
+use Rattle.aeth_base.specs.declared.ids.{LinkId.LinkId, NiId.NiId}
+use Rattle.aeth_chip.specs.{Chip.ChipData, Joined.IsJoined, Nodes.begins_at, PathTests.link_passes}
+use Rattle.aeth_chip.specs.{Paths.BeginsAt, Paths.to_of, declared.node.Link.Link}
+use Rattle.aeth_chip.specs.{declared.node.Node.Node, declared.node.Node.TheVariants.Ni}
 use Rattle.aeth_group.specs.Members.{GroupsData}
-use Rattle.aeth_paths.specs.Candidates.{IsCandidate}
-use Rattle.aeth_paths.specs.Trials.{TrialData, book_of}
-use Rattle.aeth_paths.specs.declared.request.Found.{Found}
+use Rattle.aeth_paths.specs.{Candidates.IsCandidate, Trials.TrialData, Trials.book_of}
+use Rattle.aeth_paths.specs.{declared.request.Found.Found}
 use Rattle.aeth_explain.specs.TryPaths.{MayTake, is_dead}
 
 -- Whether a list begins with another.

@@ -1,8 +1,7 @@
 -- The rules that texts of certificates break. Places are lines, which count from 1. The first two are
 -- those of plan texts. This project's own.
-use Rattle.std.specs.Prelude.{ℕ, codes, Option, Some, None}
-use Rattle.aeth_base.specs.Faults.{BrokenRule}
-use Rattle.aeth_base.specs.declared.shown.Shown.TheVariants.{Nothing}
+use Rattle.std.proofs.Common.{ℕ, codes, Option, Some, None}
+use Rattle.aeth_base.specs.{Faults.BrokenRule, declared.shown.Shown.TheVariants.Nothing}
 use Rattle.aeth_plan.specs.Refusals.{bad_line, unknown}
 use Rattle.aeth_explain.specs.declared.cuts_fault.CutsFault.{CutsFault}
 use Rattle.aeth_explain.specs.declared.cuts_fault.CutsFault.TheVariants.{BadLine, Memory, Unknown}

@@ -6,30 +6,24 @@
 --   matched      the `try` lines are those of the tries
 --   cuts_behind, blocks_of, cuts_of_text      the lists behind each `try` line
 --   try_line, cut_line, block_lines, cuts_text      the text of tries and their cuts
-use Rattle.std.specs.Prelude.{ℕ, ◌<◌, ◌==◌, ◌&&◌, ◌++◌, Bool, List, [], ◌∷◌, All, codes}
-use Rattle.std.specs.Prelude.{decimal, if◌then◌else◌, length, map, nat_lt, Result, Ok, Err}
+use Rattle.std.proofs.Common.{ℕ, ◌<◌, ◌==◌, ◌&&◌, ◌++◌, Bool, List, [], ◌∷◌, All, codes, decimal}
+use Rattle.std.proofs.Common.{if◌then◌else◌, length, map, nat_lt, Result, Ok, Err}
 use Rattle.std.specs.List.{join_with_byte, list_all}
-use Rattle.aeth_base.specs.Faults.{BrokenRule}
-use Rattle.aeth_base.specs.Sides.{same_side}
-use Rattle.aeth_base.specs.declared.ids.LinkId.{LinkId}
+use Rattle.aeth_base.specs.{Faults.BrokenRule, Sides.same_side, declared.ids.LinkId.LinkId}
 use Rattle.aeth_document.specs.Chain.{◌>>=◌}
-use Rattle.aeth_text.specs.Limits.{space}
-use Rattle.aeth_text.specs.Order.{line_after}
-use Rattle.aeth_text.specs.Spelling.{links_word, side_word, text_of_lines}
+use Rattle.aeth_text.specs.{Limits.space, Order.line_after, Spelling.links_word, Spelling.side_word}
+use Rattle.aeth_text.specs.{Spelling.text_of_lines}
 use Rattle.aeth_chip.specs.Chip.{ChipData}
-use Rattle.aeth_app.specs.App.{AppData}
-use Rattle.aeth_app.specs.Connections.{connection_names}
+use Rattle.aeth_app.specs.{App.AppData, Connections.connection_names}
 use Rattle.aeth_group.specs.Members.{GroupsData}
 use Rattle.aeth_paths.specs.Trials.{TrialData}
-use Rattle.aeth_plan.specs.Plan.{name_at}
-use Rattle.aeth_plan.specs.Rules.{each, found, holds, place_among}
+use Rattle.aeth_plan.specs.{Plan.name_at, Rules.each, Rules.found, Rules.holds, Rules.place_among}
 use Rattle.aeth_explain.specs.CutsFaults.{wrong_try}
 use Rattle.aeth_explain.specs.Texts.{text_of}
 use Rattle.aeth_explain.specs.declared.text_lines.LineText.{LineText}
 use Rattle.aeth_explain.specs.declared.text_lines.LineText.TheVariants.{Cut, Try}
-use Rattle.aeth_explain.specs.declared.try_line.KnownLine.{KnownLine}
-use Rattle.aeth_explain.specs.declared.try_line.KnownLine.TheVariants.{Listed, Tried}
-use Rattle.aeth_explain.specs.declared.try_line.TryLine.{TryLine}
+use Rattle.aeth_explain.specs.declared.try_line.{KnownLine.KnownLine, KnownLine.TheVariants.Listed}
+use Rattle.aeth_explain.specs.declared.try_line.{KnownLine.TheVariants.Tried, TryLine.TryLine}
 
 -- The links of lists are the chip's.
 abbrev pub AreLinksOf : ChipData → List (List LinkId) → Type 0

@@ -6,30 +6,24 @@
 --   IsLonger, open_over, IsOver      what comes of one more link
 --   so_far, lists_so_far, first_so_far      the senders' links so far, the lists over them, and the
 --                                           first open path of these
-use Rattle.std.specs.Prelude.{◌≡◌, ◌<◌, ◌≤◌, ◌++◌, ◌-◌, ℕ, true, false, List, All, [], ◌∷◌, Option, None}
-use Rattle.std.specs.Prelude.{Some}
+use Rattle.std.proofs.Common.{◌≡◌, ◌<◌, ◌≤◌, ◌++◌, ◌-◌, ℕ, true, false, List, All, [], ◌∷◌, Option}
+use Rattle.std.proofs.Common.{None, Some, filter, length, map, slice_get}
 use Rattle.std.specs.List.{flat_map, range_with_len}
 use Rattle.aeth_base.specs.Limits.{max_path_links}
-use Rattle.std.specs.Prelude.{filter, length, map, slice_get}
-use Rattle.aeth_base.specs.declared.ids.LinkId.{LinkId}
-use Rattle.aeth_base.specs.declared.ids.NiId.{NiId}
-use Rattle.aeth_chip.specs.Chip.{ChipData, IsChip}
-use Rattle.aeth_chip.specs.Joined.{IsJoined, end_of}
-use Rattle.aeth_chip.specs.Paths.{BeginsAt, to_of}
-use Rattle.aeth_chip.specs.declared.node.Link.{Link}
-use Rattle.aeth_chip.specs.declared.node.Node.{Node}
-use Rattle.aeth_chip.specs.declared.node.Node.TheVariants.{Ni, Router}
-use Rattle.aeth_paths.specs.Search.{Field, Walks, passes}
-use Rattle.aeth_paths.specs.Task.{field}
-use Rattle.aeth_paths.specs.Trials.{IsTrialOf, TrialData}
+use Rattle.aeth_base.specs.declared.ids.{LinkId.LinkId, NiId.NiId}
+use Rattle.aeth_chip.specs.{Chip.ChipData, Chip.IsChip, Joined.IsJoined, Joined.end_of}
+use Rattle.aeth_chip.specs.{Paths.BeginsAt, Paths.to_of, declared.node.Link.Link}
+use Rattle.aeth_chip.specs.{declared.node.Node.Node, declared.node.Node.TheVariants.Ni}
+use Rattle.aeth_chip.specs.{declared.node.Node.TheVariants.Router}
+use Rattle.aeth_paths.specs.{Search.Field, Search.Walks, Search.passes, Task.field}
+use Rattle.aeth_paths.specs.{Trials.IsTrialOf, Trials.TrialData}
 use Rattle.aeth_explain.specs.Cuts.{begins_with}
 use Rattle.aeth_explain.specs.Places.{AreWithin}
 use Rattle.aeth_explain.specs.TryPaths.{leaves_one, onward_lists}
 use Rattle.aeth_explain.specs.Verdict.{is_covered, is_open}
-use Rattle.aeth_explain.specs.declared.open_paths.Front.{Front}
-use Rattle.aeth_explain.specs.declared.open_paths.Listed.{Listed}
-use Rattle.aeth_explain.specs.declared.open_paths.Over.{Over}
-use Rattle.aeth_explain.specs.declared.open_paths.Over.TheVariants.{Away, Onward, Open}
+use Rattle.aeth_explain.specs.declared.open_paths.{Front.Front, Listed.Listed, Over.Over}
+use Rattle.aeth_explain.specs.declared.open_paths.{Over.TheVariants.Away, Over.TheVariants.Onward}
+use Rattle.aeth_explain.specs.declared.open_paths.{Over.TheVariants.Open}
 
 -- The lists that begin with a list, which ends at a node, and go on over at most so many links.
 abbrev pub lists_below : List Link → ℕ → Node → List LinkId → List (List LinkId)

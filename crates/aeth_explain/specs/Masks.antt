@@ -4,17 +4,13 @@
 --   takes, is_held      whether grants that rival a unit occupy a slot
 --   AreTaken      the slots that are taken for a unit, a mask for each link
 --   IsTryJudge      what holds of every one
-use Rattle.std.specs.Prelude.{◌≡◌, ◌<◌, ◌&&◌, ℕ, Bool, List, Some, length, slice_get}
+use Rattle.std.proofs.Common.{◌≡◌, ◌<◌, ◌&&◌, ℕ, Bool, List, Some, length, slice_get}
 use Rattle.std.specs.List.{list_any}
 use Rattle.aeth_base.specs.declared.ids.Unit.{Unit as GroupUnit}
 use Rattle.aeth_slots.specs.SlotSet.{Slots}
-use Rattle.aeth_chip.specs.Chip.{ChipData, IsChip}
-use Rattle.aeth_chip.specs.declared.node.Link.{Link}
-use Rattle.aeth_group.specs.Members.{GroupsData}
-use Rattle.aeth_group.specs.Occupation.{occupies}
-use Rattle.aeth_group.specs.declared.grant.Grant.{Grant}
-use Rattle.aeth_book.specs.Book.{BookData}
-use Rattle.aeth_book.specs.Free.{is_rival, taken_slots}
+use Rattle.aeth_chip.specs.{Chip.ChipData, Chip.IsChip, declared.node.Link.Link}
+use Rattle.aeth_group.specs.{Members.GroupsData, Occupation.occupies, declared.grant.Grant.Grant}
+use Rattle.aeth_book.specs.{Book.BookData, Free.is_rival, Free.taken_slots}
 use Rattle.aeth_paths.specs.Trials.{IsTrialOf, TrialData, book_of}
 
 -- A chip, the groups of an application, and a try.

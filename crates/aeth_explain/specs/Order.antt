@@ -2,11 +2,9 @@
 --
 --   dictionary      how two lists of links compare
 --   Ascend      lists of links in this order, none twice
-use Rattle.std.specs.Prelude.{List}
-use Rattle.std.specs.Cmp.Lexicographic.{slice_cmp}
-use Rattle.std.specs.List.Sorted.{IsStrictlySortedBy}
-use Rattle.std.specs.Ordering.{nat_cmp, on}
-use Rattle.std.specs.declared.cmp.Ordering.{Ordering}
+use Rattle.std.proofs.Common.{List}
+use Rattle.std.specs.{Cmp.Lexicographic.slice_cmp, List.Sorted.IsStrictlySortedBy, Ordering.nat_cmp}
+use Rattle.std.specs.{Ordering.on, declared.cmp.Ordering.Ordering}
 use Rattle.aeth_base.specs.declared.ids.LinkId.{LinkId}
 
 -- How two lists compare: by the first links that differ, and a list comes before those that go on from it.

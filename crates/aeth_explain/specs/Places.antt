@@ -2,7 +2,7 @@
 --
 --   IsWithin      a place is between two
 --   AreWithin      all lists that pass a test are between two places
-use Rattle.std.specs.Prelude.{◌≡◌, ◌<◌, ◌≤◌, ℕ, Bool, true, List, Some, slice_get}
+use Rattle.std.proofs.Common.{◌≡◌, ◌<◌, ◌≤◌, ℕ, Bool, true, List, Some, slice_get}
 use Rattle.aeth_base.specs.declared.ids.LinkId.{LinkId}
 use Rattle.aeth_explain.specs.declared.places.Places.{Places}
 

@@ -2,17 +2,13 @@
 --
 --   most_by, most_to      the most links of a path to an interface
 --   IsReach      tables of the most links to interfaces, and of the most to routers on the way
-use Rattle.std.specs.Prelude.{◌≡◌, ◌<◌, ◌≤◌, ◌+◌, ◌&&◌, ◌==◌, ℕ, List, Option, None, Some, length, min, not}
-use Rattle.std.specs.Prelude.{if◌then◌else◌, slice_index}
+use Rattle.std.proofs.Common.{◌≡◌, ◌<◌, ◌≤◌, ◌+◌, ◌&&◌, ◌==◌, ℕ, List, Option, None, Some, length}
+use Rattle.std.proofs.Common.{min, not, if◌then◌else◌, slice_index}
 use Rattle.std.specs.List.{list_any}
 use Rattle.aeth_base.specs.Limits.{max_path_links}
-use Rattle.aeth_base.specs.declared.ids.NiId.{NiId}
-use Rattle.aeth_base.specs.declared.ids.RouterId.{RouterId}
-use Rattle.aeth_chip.specs.Chip.{ChipData}
-use Rattle.aeth_chip.specs.LeastDistance.{least_distance}
-use Rattle.aeth_chip.specs.Paths.{IsOnwardDistance}
-use Rattle.aeth_paths.specs.Open.{is_crowded}
-use Rattle.aeth_paths.specs.Trials.{TrialData}
+use Rattle.aeth_base.specs.declared.ids.{NiId.NiId, RouterId.RouterId}
+use Rattle.aeth_chip.specs.{Chip.ChipData, LeastDistance.least_distance, Paths.IsOnwardDistance}
+use Rattle.aeth_paths.specs.{Open.is_crowded, Trials.TrialData}
 
 -- The most links of a path, by the least number of those that lead there and a detour.
 abbrev pub most_by : ℕ → Option ℕ → ℕ

@@ -4,15 +4,12 @@
 --   is_occupied      whether one of some grants occupies a slot in a use case
 --   AreTables      they tell of the first so many of some grants
 --   taken_by      the slots of a link that use cases have
-use Rattle.std.specs.Prelude.{◌≡◌, ◌≤◌, ◌*◌, ℕ, Bool, List, length, take}
+use Rattle.std.proofs.Common.{◌≡◌, ◌≤◌, ◌*◌, ℕ, Bool, List, length, take}
 use Rattle.std.specs.List.{list_any}
 use Rattle.aeth_slots.specs.SlotSet.{Slots, slots_where}
-use Rattle.aeth_chip.specs.Chip.{ChipData}
-use Rattle.aeth_chip.specs.declared.node.Link.{Link}
-use Rattle.aeth_group.specs.Members.{GroupsData}
-use Rattle.aeth_group.specs.Occupation.{holds_in}
-use Rattle.aeth_group.specs.Tables.{IsTable}
-use Rattle.aeth_group.specs.declared.grant.Grant.{Grant}
+use Rattle.aeth_chip.specs.{Chip.ChipData, declared.node.Link.Link}
+use Rattle.aeth_group.specs.{Members.GroupsData, Occupation.holds_in, Tables.IsTable}
+use Rattle.aeth_group.specs.{declared.grant.Grant.Grant}
 
 -- A mask for each use case and link, row by row, and the number of grants of which they tell.
 pub record SlotTablesData : Type 0 where

@@ -4,24 +4,19 @@
 --   is_head, try_in, cut_in, line_in      the lines
 --   text_in, text_of      the whole text, or the first line that hasn't its form at its position
 -- This project's own.
-use Rattle.std.specs.Prelude.{ℕ, Bool, List, [], ◌∷◌, codes, length, Option, Some, None, option_map}
-use Rattle.std.specs.Prelude.{Result, Ok, Err, if◌then◌else◌}
+use Rattle.std.proofs.Common.{ℕ, Bool, List, [], ◌∷◌, codes, length, Option, Some, None, option_map}
+use Rattle.std.proofs.Common.{Result, Ok, Err, if◌then◌else◌}
 use Rattle.std.specs.Str.{bytes_eq}
-use Rattle.aeth_base.specs.Faults.{BrokenRule}
-use Rattle.aeth_base.specs.Name.{name_of}
-use Rattle.aeth_base.specs.declared.ids.LinkId.{LinkId}
-use Rattle.aeth_base.specs.declared.ids.Side.{Side}
+use Rattle.aeth_base.specs.{Faults.BrokenRule, Name.name_of, declared.ids.LinkId.LinkId}
+use Rattle.aeth_base.specs.{declared.ids.Side.Side}
 use Rattle.aeth_document.specs.Chain.{◌>>=◌}
-use Rattle.aeth_plan.specs.Lines.{closed}
-use Rattle.aeth_plan.specs.Refusals.{bad_line}
-use Rattle.aeth_text.specs.Fields.{link_in, links_in, number_in, side_in}
-use Rattle.aeth_text.specs.Grammar.{behind, field, headed, last_field, leading, lines_of, parts}
-use Rattle.aeth_text.specs.Grammar.{rest_of}
-use Rattle.aeth_text.specs.Limits.{space}
-use Rattle.aeth_text.specs.Order.{line_after}
-use Rattle.aeth_explain.specs.declared.text_lines.LineText.{LineText}
-use Rattle.aeth_explain.specs.declared.text_lines.LineText.TheVariants.{Cut, Try}
-use Rattle.aeth_explain.specs.declared.text_lines.TryText.{TryText}
+use Rattle.aeth_plan.specs.{Lines.closed, Refusals.bad_line}
+use Rattle.aeth_text.specs.{Fields.link_in, Fields.links_in, Fields.number_in, Fields.side_in}
+use Rattle.aeth_text.specs.{Grammar.behind, Grammar.field, Grammar.headed, Grammar.last_field}
+use Rattle.aeth_text.specs.{Grammar.leading, Grammar.lines_of, Grammar.parts, Grammar.rest_of}
+use Rattle.aeth_text.specs.{Limits.space, Order.line_after}
+use Rattle.aeth_explain.specs.declared.text_lines.{LineText.LineText, LineText.TheVariants.Cut}
+use Rattle.aeth_explain.specs.declared.text_lines.{LineText.TheVariants.Try, TryText.TryText}
 
 -- `explain 1`.
 unfoldable pub is_head : List ℕ → Bool

@@ -4,23 +4,18 @@
 --   onward_lists, leaving_lists      lists of joined links, in the order of a dictionary
 --   MayTake, may_take      a path that the try may take, as a fact and as a test
 --   is_dead      whether links leave no suitable slots
-use Rattle.std.specs.Prelude.{ℕ, zero, suc, ◌-◌, ◌&&◌, ◌==◌, Bool, not, List, [], ◌∷◌, filter, map}
+use Rattle.std.proofs.Common.{ℕ, zero, suc, ◌-◌, ◌&&◌, ◌==◌, Bool, not, List, [], ◌∷◌, filter, map}
 use Rattle.std.specs.List.{flat_map, list_any}
 use Rattle.aeth_base.specs.Limits.{max_path_links}
-use Rattle.aeth_base.specs.declared.ids.LinkId.{LinkId}
-use Rattle.aeth_base.specs.declared.ids.NiId.{NiId}
-use Rattle.aeth_chip.specs.Chip.{ChipData}
-use Rattle.aeth_chip.specs.LeastDistance.{link_ids}
-use Rattle.aeth_chip.specs.Paths.{IsAdmissible, to_of}
-use Rattle.aeth_chip.specs.declared.node.Link.{Link}
-use Rattle.aeth_chip.specs.declared.node.Node.{Node}
-use Rattle.aeth_chip.specs.declared.node.Node.TheVariants.{Ni, Router}
+use Rattle.aeth_base.specs.declared.ids.{LinkId.LinkId, NiId.NiId}
+use Rattle.aeth_chip.specs.{Chip.ChipData, LeastDistance.link_ids, Paths.IsAdmissible, Paths.to_of}
+use Rattle.aeth_chip.specs.{declared.node.Link.Link, declared.node.Node.Node}
+use Rattle.aeth_chip.specs.{declared.node.Node.TheVariants.Ni}
+use Rattle.aeth_chip.specs.{declared.node.Node.TheVariants.Router}
 use Rattle.aeth_group.specs.Members.{GroupsData}
 use Rattle.aeth_check.specs.Routes.{is_admissible}
-use Rattle.aeth_paths.specs.Candidates.{IsAllowed, is_live}
-use Rattle.aeth_paths.specs.Open.{is_crowded}
-use Rattle.aeth_paths.specs.Task.{links_from}
-use Rattle.aeth_paths.specs.Trials.{TrialData, book_of}
+use Rattle.aeth_paths.specs.{Candidates.IsAllowed, Candidates.is_live, Open.is_crowded}
+use Rattle.aeth_paths.specs.{Task.links_from, Trials.TrialData, Trials.book_of}
 
 -- The lists of at most so many joined links that go on from a node through routers, in the order
 -- of a dictionary.

@@ -4,10 +4,9 @@
 --   is_covered, is_open, open_paths      the same as tests, and all such paths
 --   by_open, by_cut, verdict_of      the first list that is no cut, else the least open path, else
 --                                    that the lists are complete
-use Rattle.std.specs.Prelude.{◌≡◌, ◌≢◌, ◌+◌, ◌&&◌, ℕ, Bool, false, not, List, [], ◌∷◌, Contains, Option}
-use Rattle.std.specs.Prelude.{Some, None, filter, position}
-use Rattle.std.specs.List.{list_any}
-use Rattle.std.specs.declared.cmp.Ordering.TheVariants.{Less}
+use Rattle.std.proofs.Common.{◌≡◌, ◌≢◌, ◌+◌, ◌&&◌, ℕ, Bool, false, not, List, [], ◌∷◌, Contains}
+use Rattle.std.proofs.Common.{Option, Some, None, filter, position}
+use Rattle.std.specs.{List.list_any, declared.cmp.Ordering.TheVariants.Less}
 use Rattle.aeth_base.specs.declared.ids.LinkId.{LinkId}
 use Rattle.aeth_chip.specs.Chip.{ChipData}
 use Rattle.aeth_group.specs.Members.{GroupsData}

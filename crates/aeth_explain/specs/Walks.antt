@@ -3,18 +3,14 @@
 --   may_have      a path that the try may take, and live
 --   IsWalked      such a path, or the shortest cuts of some lists
 --   IsTried      a try that is certified, beside what judges its lists
-use Rattle.std.specs.Prelude.{◌≡◌, ◌&&◌, ◌++◌, Bool, true, false, List, [], filter}
+use Rattle.std.proofs.Common.{◌≡◌, ◌&&◌, ◌++◌, Bool, true, false, List, [], filter}
 use Rattle.std.specs.List.{list_any}
 use Rattle.aeth_base.specs.declared.ids.LinkId.{LinkId}
 use Rattle.aeth_chip.specs.Chip.{ChipData}
 use Rattle.aeth_group.specs.Members.{GroupsData}
-use Rattle.aeth_paths.specs.Candidates.{is_live}
-use Rattle.aeth_paths.specs.Trials.{TrialData, book_of}
-use Rattle.aeth_explain.specs.Certificate.{is_first_cut}
-use Rattle.aeth_explain.specs.Fronts.{IsListed}
-use Rattle.aeth_explain.specs.Masks.{TryJudgeData}
-use Rattle.aeth_explain.specs.TryPaths.{may_take}
-use Rattle.aeth_explain.specs.declared.open_paths.Listed.{Listed}
+use Rattle.aeth_paths.specs.{Candidates.is_live, Trials.TrialData, Trials.book_of}
+use Rattle.aeth_explain.specs.{Certificate.is_first_cut, Fronts.IsListed, Masks.TryJudgeData}
+use Rattle.aeth_explain.specs.{TryPaths.may_take, declared.open_paths.Listed.Listed}
 
 module _ (chip : ChipData) (groups : GroupsData) (trial : TrialData) where
   -- Whether the try may take a path, and it is live.

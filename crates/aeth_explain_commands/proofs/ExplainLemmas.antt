@@ -1,10 +1,9 @@
 -- The text of certificates and their verdicts, try by try.
-use Rattle.std.proofs.Common.{◌≡◌, ◌∙◌, ◌+◌, ◌≤◌, ◌++◌, ◌∷◌, [], ℕ, List, Some, ap}
-use Rattle.std.proofs.Common.{append_assoc, arith, drop, get_or, length, map, subst, sym, take}
-use Rattle.std.specs.Prelude.{AllPairs, codes, option_map, slice_get, unwrap_or}
-use Rattle.std.proofs.lemmas.Option.{get_or_from_slice_get, slice_get_within}
-use Rattle.std.proofs.lemmas.Grind.{flat_map-append}
-use Rattle.std.proofs.lemmas.List.{append-nil, drop_all, map-append}
+use Rattle.std.proofs.Common.{◌≡◌, ◌∙◌, ◌+◌, ◌≤◌, ◌++◌, ◌∷◌, [], ℕ, List, Some, ap, append_assoc}
+use Rattle.std.proofs.Common.{arith, drop, get_or, length, map, subst, sym, take, AllPairs, codes}
+use Rattle.std.proofs.Common.{option_map, slice_get, unwrap_or, append-nil}
+use Rattle.std.proofs.lemmas.{Option.get_or_from_slice_get, Option.slice_get_within}
+use Rattle.std.proofs.lemmas.{Grind.flat_map-append, List.drop_all, List.map-append}
 use Rattle.aeth_alloc.specs.Trials.{GoesOn, earlier_count, refused_of}
 use Rattle.aeth_alloc.specs.declared.outcome.Refused.{Refused}
 use Rattle.aeth_app.specs.App.{AppData}
@@ -14,13 +13,10 @@ use Rattle.aeth_explain.specs.CutsText.{block_lines, blocks_lines, cuts_text, li
 use Rattle.aeth_explain.specs.SlotTables.{AreTables, SlotTablesData, is_occupied}
 use Rattle.aeth_explain.specs.Verdict.{verdict_of}
 use Rattle.aeth_explain.specs.declared.try_line.TryLine.{TryLine}
-use Rattle.aeth_group.specs.Members.{groups_of}
-use Rattle.aeth_group.specs.Tables.{IsTable}
-use Rattle.aeth_group.specs.declared.grant.Grant.{Grant}
+use Rattle.aeth_group.specs.{Members.groups_of, Tables.IsTable, declared.grant.Grant.Grant}
 use Rattle.aeth_paths.specs.Trials.{TrialData}
 use Rattle.aeth_plan.specs.declared.design.Design.{Design}
-use Rattle.aeth_text.specs.Order.{line_after}
-use Rattle.aeth_text.specs.Spelling.{ended_line, text_of_lines}
+use Rattle.aeth_text.specs.{Order.line_after, Spelling.ended_line, Spelling.text_of_lines}
 use Rattle.aeth_explain_commands.specs.Explain.{AreBehind, flaw_of, verdicts_job}
 
 -- The line of one try more.

@@ -1,7 +1,6 @@
 -- Laws of the answer to certificates.
-use Rattle.std.proofs.Common.{◌≢◌, ◌<◌, ◌+◌, ℕ, List, [], ◌∷◌, arith, length}
-use Rattle.aeth_answers.specs.Job.{Job}
-use Rattle.aeth_answers.specs.Status.{read_fault_status, usage_status}
+use Rattle.std.proofs.Common.{◌≢◌, ◌<◌, ◌+◌, ℕ, List, [], ◌∷◌, arith, length, unwrap_or}
+use Rattle.aeth_answers.specs.{Job.Job, Status.read_fault_status, Status.usage_status}
 use Rattle.aeth_base.specs.declared.ids.LinkId.{LinkId}
 use Rattle.aeth_explain.specs.Verdict.{verdict_of}
 use Rattle.aeth_explain.specs.declared.verdict.CutVerdict.{CutVerdict}
@@ -10,7 +9,6 @@ use Rattle.aeth_group.specs.Members.{groups_of}
 use Rattle.aeth_paths.specs.Trials.{TrialData}
 use Rattle.aeth_plan.specs.declared.design.Design.{Design}
 use Rattle.aeth_text.specs.Order.{line_after}
-use Rattle.std.specs.Prelude.{unwrap_or}
 use Rattle.aeth_explain_commands.specs.Explain.{flaw_of, verdicts_job}
 
 -- The answer of a verdict, or a later one, is one to a command that has read its files.

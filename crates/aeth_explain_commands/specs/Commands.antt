@@ -1,9 +1,8 @@
 -- The command on refusals, and what it asks for.
 -- This project's own.
-use Rattle.std.specs.Prelude.{ℕ, List, [], ◌∷◌, Option, Some, None, codes, if◌then◌else◌}
+use Rattle.std.proofs.Common.{ℕ, List, [], ◌∷◌, Option, Some, None, codes, if◌then◌else◌}
 use Rattle.std.specs.Str.{bytes_eq}
-use Rattle.aeth_answers.specs.Task.{Task}
-use Rattle.aeth_answers.specs.Words.{◌>>=◌, file_name_of}
+use Rattle.aeth_answers.specs.{Task.Task, Words.◌>>=◌, Words.file_name_of}
 use Rattle.aeth_explain_commands.specs.Explain.{confirm_task, explain_task}
 use Rattle.aeth_explain_commands.specs.declared.command.ExplainCommand.{ExplainCommand}
 use Rattle.aeth_explain_commands.specs.declared.command.ExplainCommand.TheVariants as command

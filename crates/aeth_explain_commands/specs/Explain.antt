@@ -1,12 +1,10 @@
 -- `explain CHIP APP`: why channels were refused, by certificates; `explain CHIP APP CERT`: whether the
 -- certificates of a text are complete. This project's own.
-use Rattle.std.specs.Prelude.{ℕ, ◌≡◌, ◌≤◌, ◌+◌, ◌++◌, List, [], ◌∷◌, All, Contains, Option, Some, None}
-use Rattle.std.specs.Prelude.{codes, decimal, length, map, slice_get, unwrap_or}
-use Rattle.aeth_alloc.specs.Prices.{prices_of}
-use Rattle.aeth_alloc.specs.Trials.{earlier_count, trials_of}
-use Rattle.aeth_answers.specs.Files.{judged_file}
-use Rattle.aeth_answers.specs.Job.{Job, done, not_granted}
-use Rattle.aeth_answers.specs.Task.{Judging, Task, ends}
+use Rattle.std.proofs.Common.{ℕ, ◌≡◌, ◌≤◌, ◌+◌, ◌++◌, List, [], ◌∷◌, All, Contains, Option, Some}
+use Rattle.std.proofs.Common.{None, codes, decimal, length, map, slice_get, unwrap_or}
+use Rattle.aeth_alloc.specs.{Prices.prices_of, Trials.earlier_count, Trials.trials_of}
+use Rattle.aeth_answers.specs.{Files.judged_file, Job.Job, Job.done, Job.not_granted, Task.Judging}
+use Rattle.aeth_answers.specs.{Task.Task, Task.ends}
 use Rattle.aeth_app.specs.App.{AppData}
 use Rattle.aeth_base.specs.declared.ids.LinkId.{LinkId}
 use Rattle.aeth_explain.specs.Certificate.{cuts_of}
@@ -17,13 +15,11 @@ use Rattle.aeth_explain.specs.Verdict.{verdict_of}
 use Rattle.aeth_explain.specs.declared.try_line.TryLine.{TryLine}
 use Rattle.aeth_explain.specs.declared.verdict.CutVerdict.{CutVerdict}
 use Rattle.aeth_explain.specs.declared.verdict.CutVerdict.TheVariants.{Complete, NotDead, Open}
-use Rattle.aeth_files.specs.Files.{design_file}
-use Rattle.aeth_files.specs.Plans.{side_text}
+use Rattle.aeth_files.specs.{Files.design_file, Plans.side_text}
 use Rattle.aeth_group.specs.Members.{groups_of}
 use Rattle.aeth_paths.specs.Trials.{IsTrialOf, TrialData}
 use Rattle.aeth_plan.specs.declared.design.Design.{Design}
-use Rattle.aeth_text.specs.Order.{line_after}
-use Rattle.aeth_text.specs.Spelling.{links_word}
+use Rattle.aeth_text.specs.{Order.line_after, Spelling.links_word}
 use Rattle.aeth_explain_commands.specs.declared.explain.Refusals.{Refusals}
 
 -- The tries of the channels for which the allocation refuses units.

@@ -1,23 +1,18 @@
 -- Each session has the opposite channel's beside it.
-use Rattle.std.proofs.Common.{◌≡◌, ◌<◌, ◌∙◌, ℕ, length, filter, refl, sym, ap}
+use Rattle.std.proofs.Common.{◌≡◌, ◌<◌, ◌∙◌, ℕ, length, filter, refl, sym, ap, ◌&&◌, nat_le, nat_lt}
 use Rattle.std.proofs.lemmas.List.{length-map}
 use Rattle.aeth_app.specs.Connections.{receiver, sender}
 use Rattle.aeth_app.specs.declared.connection.Connection.{Connection}
-use Rattle.aeth_base.specs.Sides.{other_side}
-use Rattle.aeth_base.specs.declared.ids.CoreId.{CoreId}
-use Rattle.aeth_base.specs.declared.ids.Side.{Side}
-use Rattle.aeth_base.specs.declared.ids.Side.TheVariants.{Back, Fwd}
+use Rattle.aeth_base.specs.{Sides.other_side, declared.ids.CoreId.CoreId, declared.ids.Side.Side}
+use Rattle.aeth_base.specs.{declared.ids.Side.TheVariants.Back, declared.ids.Side.TheVariants.Fwd}
 use Rattle.aeth_base.proofs.Filters.{filter-map}
 use Rattle.aeth_server.specs.PrivateServer.{accepted}
-use Rattle.aeth_trace.specs.Words.{words_on}
-use Rattle.aeth_trace.specs.declared.words.WordRow.{WordRow}
-use Rattle.aeth_report.specs.Design.{connection_at, queue_at}
-use Rattle.aeth_report.specs.Flows.{Run, is_within}
+use Rattle.aeth_trace.specs.{Words.words_on, declared.words.WordRow.WordRow}
+use Rattle.aeth_report.specs.{Design.connection_at, Design.queue_at, Flows.Run, Flows.is_within}
 use Rattle.aeth_refinement.specs.Accepted.{IsAnswered}
-use Rattle.aeth_fabric.specs.Fabric.{Placed, fabric_over, flow_in, passage_of}
-use Rattle.aeth_fabric.specs.Fabric.{placed_at, placed_of, row_in}
+use Rattle.aeth_fabric.specs.Fabric.{Placed, fabric_over, flow_in, passage_of, placed_at, placed_of}
+use Rattle.aeth_fabric.specs.Fabric.{row_in}
 use Rattle.aeth_fabric.proofs.Numbers.{opposite-back, opposite-is}
-use Rattle.std.specs.Prelude.{◌&&◌, nat_le, nat_lt}
 
 -- A channel lands at the core from which the opposite one is sent.
 sends_back : (connection : Connection) (side : Side)

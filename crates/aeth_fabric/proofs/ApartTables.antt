@@ -1,20 +1,14 @@
 -- No two channels of all use cases share a queue of an interface.
-use Rattle.std.proofs.Common.{◌≡◌, ◌∙◌, ℕ, true, Contains, Some, slice_get, length, sym}
-use Rattle.std.proofs.Common.{ap, subst}
-use Rattle.std.specs.Prelude.{IsSomeAnd, IsTrue}
+use Rattle.std.proofs.Common.{◌≡◌, ◌∙◌, ℕ, true, Contains, Some, slice_get, length, sym, ap, subst}
+use Rattle.std.proofs.Common.{IsSomeAnd, IsTrue}
 use Rattle.std.proofs.lemmas.Option.{same_Some}
-use Rattle.aeth_base.specs.declared.ids.Channel.{Channel}
-use Rattle.aeth_base.specs.declared.ids.CoreId.{CoreId}
-use Rattle.aeth_base.specs.declared.ids.NiId.{NiId}
-use Rattle.aeth_app.specs.App.{IsConnection, is_end, position_of}
-use Rattle.aeth_app.specs.declared.connection.Connection.{Connection}
-use Rattle.aeth_app.proofs.AppLemmas.{position_of-few}
-use Rattle.aeth_app.proofs.PositionLemmas.{position_of-apart}
-use Rattle.aeth_app.specs.Connections.{sender}
+use Rattle.aeth_base.specs.declared.ids.{Channel.Channel, CoreId.CoreId, NiId.NiId}
+use Rattle.aeth_app.specs.{App.IsConnection, App.is_end, App.position_of}
+use Rattle.aeth_app.specs.{declared.connection.Connection.Connection, Connections.sender}
+use Rattle.aeth_app.proofs.{AppLemmas.position_of-few, PositionLemmas.position_of-apart}
 use Rattle.aeth_plan.specs.Seated.{IsOneSeat}
-use Rattle.aeth_group.specs.Members.{group_at, groups_of, has_at}
-use Rattle.aeth_group.specs.declared.grant.SeatLine.{SeatLine}
-use Rattle.aeth_group.proofs.ListLemmas.{all_at}
+use Rattle.aeth_group.{specs.Members.group_at, specs.Members.groups_of, specs.Members.has_at}
+use Rattle.aeth_group.{specs.declared.grant.SeatLine.SeatLine, proofs.ListLemmas.all_at}
 use Rattle.aeth_ni.specs.declared.row.ChannelRow.{ChannelRow}
 use Rattle.aeth_reconf.specs.Windows.{AreQueuesApart}
 use Rattle.aeth_seats.specs.Seats.{queue_of}

@@ -1,24 +1,18 @@
 -- Two sessions that are in the tables in one cycle enter no wire in one slot.
-use Rattle.std.proofs.Common.{◌≡◌, ◌≤◌, ◌<◌, ◌+◌, ◌%◌, ◌∙◌, ℕ, suc, true, List, [], ◌∷◌}
-use Rattle.std.proofs.Common.{Option, Some, None, length, slice_get, refl, sym, ap, subst, inl, inr}
-use Rattle.std.proofs.Common.{arith, eqb}
-use Rattle.std.specs.Prelude.{IfSome, max, option_map, unwrap_or}
-use Rattle.std.specs.List.{list_any, position_or_len}
-use Rattle.std.proofs.lemmas.Bool.{cases_Bool, cases_lt, eqb-true}
+use Rattle.std.proofs.Common.{◌≡◌, ◌≤◌, ◌<◌, ◌+◌, ◌%◌, ◌∙◌, ℕ, suc, true, List, [], ◌∷◌, Option}
+use Rattle.std.proofs.Common.{Some, None, length, slice_get, refl, sym, ap, subst, inl, inr, arith}
+use Rattle.std.proofs.Common.{eqb, IfSome, max, option_map, unwrap_or, eqb-true}
+use Rattle.std.proofs.lemmas.Bool.{cases_Bool, cases_lt}
 use Rattle.std.proofs.lemmas.Option.{slice_get-map, slice_get_past}
-use Rattle.aeth_base.specs.Limits.{max_path_delay}
-use Rattle.aeth_base.specs.declared.ids.Channel.{Channel}
-use Rattle.aeth_base.specs.declared.ids.LinkId.{LinkId}
-use Rattle.aeth_base.proofs.Division.{mod-before}
-use Rattle.aeth_chip.specs.Chip.{IsChip}
-use Rattle.aeth_chip.specs.Paths.{delay_in, delay_of, offset}
-use Rattle.aeth_chip.specs.declared.node.Link.{Link}
+use Rattle.std.specs.List.{list_any, position_or_len}
+use Rattle.aeth_base.{specs.Limits.max_path_delay, specs.declared.ids.Channel.Channel}
+use Rattle.aeth_base.{specs.declared.ids.LinkId.LinkId, proofs.Division.mod-before}
+use Rattle.aeth_chip.specs.{Chip.IsChip, Paths.delay_in, Paths.delay_of, Paths.offset}
+use Rattle.aeth_chip.specs.{declared.node.Link.Link}
 use Rattle.aeth_chip.proofs.WireLemmas.{wire_at-apart}
-use Rattle.aeth_report.specs.declared.session.Close.{Close}
-use Rattle.aeth_report.specs.Design.{grant_at}
-use Rattle.aeth_report.specs.Flows.{Run, sessions_in}
-use Rattle.aeth_report.specs.Sessions.{Switch, close_by, go_of, session_of}
-use Rattle.aeth_report.specs.Sound.{IsSound}
+use Rattle.aeth_report.specs.{declared.session.Close.Close, Design.grant_at, Flows.Run}
+use Rattle.aeth_report.specs.{Flows.sessions_in, Sessions.Switch, Sessions.close_by, Sessions.go_of}
+use Rattle.aeth_report.specs.{Sessions.session_of, Sound.IsSound}
 use Rattle.aeth_report.proofs.GrantLemmas.{EntersIn, entered_once}
 use Rattle.aeth_report.proofs.SessionMeetings.{IsInTables as IsStayInTables, finish_by}
 use Rattle.aeth_report.proofs.SessionMeetings.{stays_alone_in_tables, stays_meet_in_tables}

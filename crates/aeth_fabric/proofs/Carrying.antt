@@ -1,36 +1,25 @@
 -- What the wires of the fabric carry is what the links of the run do.
-use Rattle.std.proofs.Common.{◌≡◌, ◌⊎◌, ◌<◌, ◌+◌, ◌∙◌, ℕ, suc, false, List, [], ◌∷◌, ◌++◌}
-use Rattle.std.proofs.Common.{Option, Some, None, get_or, length, map, slice_get, refl, sym, ap, inl}
-use Rattle.std.proofs.Common.{inr, arith}
-use Rattle.std.specs.Prelude.{max, option_map, unwrap_or}
+use Rattle.std.proofs.Common.{◌≡◌, ◌⊎◌, ◌<◌, ◌+◌, ◌∙◌, ℕ, suc, false, List, [], ◌∷◌, ◌++◌, Option}
+use Rattle.std.proofs.Common.{Some, None, get_or, length, map, slice_get, refl, sym, ap, inl, inr}
+use Rattle.std.proofs.Common.{arith, max, option_map, unwrap_or}
+use Rattle.std.proofs.lemmas.{Bool.cases_lt, List.Concat.flat_map-cons, List.Folds.flat_map-map}
+use Rattle.std.proofs.lemmas.{List.FromFn.get_or-map-range_with_len}
+use Rattle.std.proofs.lemmas.{List.FromFn.length-map-range_with_len, List.map-append}
+use Rattle.std.proofs.lemmas.{Option.slice_get-get_or, Option.slice_get_past, Simd.map-map}
 use Rattle.std.specs.List.{enumerate_from, flat_map, range_with_len}
-use Rattle.std.proofs.lemmas.Bool.{cases_lt}
-use Rattle.std.proofs.lemmas.List.Concat.{flat_map-cons}
-use Rattle.std.proofs.lemmas.List.Folds.{flat_map-map}
-use Rattle.std.proofs.lemmas.List.FromFn.{get_or-map-range_with_len, length-map-range_with_len}
-use Rattle.std.proofs.lemmas.List.{map-append}
-use Rattle.std.proofs.lemmas.Option.{slice_get-get_or, slice_get_past}
-use Rattle.std.proofs.lemmas.Simd.{map-map}
-use Rattle.aeth_base.specs.Limits.{max_path_delay}
-use Rattle.aeth_base.specs.declared.ids.Channel.{Channel}
-use Rattle.aeth_base.specs.declared.ids.LinkId.{LinkId}
-use Rattle.aeth_base.proofs.Lists.{same_list}
-use Rattle.aeth_chip.specs.Chip.{IsChip}
-use Rattle.aeth_chip.specs.Paths.{delay_of}
-use Rattle.aeth_chip.specs.Wires.{wire_at}
+use Rattle.aeth_base.{specs.Limits.max_path_delay, specs.declared.ids.Channel.Channel}
+use Rattle.aeth_base.{specs.declared.ids.LinkId.LinkId, proofs.Lists.same_list}
+use Rattle.aeth_chip.specs.{Chip.IsChip, Paths.delay_of, Wires.wire_at}
 use Rattle.aeth_chip.proofs.OffsetLemmas.{delay_of-range}
-use Rattle.aeth_report.specs.Carries.{carries as carries_in, flits_on, injects}
-use Rattle.aeth_report.specs.Channels.{channels_of}
-use Rattle.aeth_report.specs.Design.{grant_at}
-use Rattle.aeth_report.specs.Flows.{Flow, Run, flow_of, flows_of, flows_on}
-use Rattle.aeth_report.specs.Sessions.{Stay, Switch, close_by, go_of, session_of}
-use Rattle.aeth_report.specs.Sound.{IsSound}
-use Rattle.aeth_report.specs.declared.session.Close.{Close}
-use Rattle.aeth_report.proofs.Places.{flat_map-none}
-use Rattle.aeth_report.proofs.GrantLemmas.{grant_at-is}
+use Rattle.aeth_report.specs.{Carries.carries as carries_in, Carries.flits_on, Carries.injects}
+use Rattle.aeth_report.specs.{Channels.channels_of, Design.grant_at, Flows.Flow, Flows.Run}
+use Rattle.aeth_report.specs.{Flows.flow_of, Flows.flows_of, Flows.flows_on, Sessions.Stay}
+use Rattle.aeth_report.specs.{Sessions.Switch, Sessions.close_by, Sessions.go_of}
+use Rattle.aeth_report.specs.{Sessions.session_of, Sound.IsSound, declared.session.Close.Close}
+use Rattle.aeth_report.proofs.{Places.flat_map-none, GrantLemmas.grant_at-is}
 use Rattle.aeth_refinement.specs.Carries.{carries}
-use Rattle.aeth_fabric.specs.Fabric.{Placed, fabric_over, flow_in, no_placed, placed_of}
-use Rattle.aeth_fabric.specs.Fabric.{placed_on, placed_with, stays_in}
+use Rattle.aeth_fabric.specs.Fabric.{Placed, fabric_over, flow_in, no_placed, placed_of, placed_on}
+use Rattle.aeth_fabric.specs.Fabric.{placed_with, stays_in}
 use Rattle.aeth_fabric.proofs.ApartWires.{past}
 use Rattle.aeth_fabric.proofs.CarriedFlits.{all_on_wire, idle, none-early, none-idle, none-idle_on}
 use Rattle.aeth_fabric.proofs.CarriedFlits.{same_flits}

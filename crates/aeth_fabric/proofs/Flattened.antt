@@ -1,10 +1,8 @@
 -- Places of lists that are made of others.
-use Rattle.std.proofs.Common.{◌≡◌, ◌+◌, ◌∙◌, ℕ, zero, suc, List, [], ◌∷◌, Some}
-use Rattle.std.proofs.Common.{drop, length, take, slice_get, refl, ap, arith}
+use Rattle.std.proofs.Common.{◌≡◌, ◌+◌, ◌∙◌, ℕ, zero, suc, List, [], ◌∷◌, Some, drop, length, take}
+use Rattle.std.proofs.Common.{slice_get, refl, ap, arith, length-append}
+use Rattle.std.proofs.lemmas.{List.Concat.flat_map-cons, Option.same_Some, Option.slice_get_within}
 use Rattle.std.specs.List.{flat_map}
-use Rattle.std.proofs.lemmas.List.{length-append}
-use Rattle.std.proofs.lemmas.List.Concat.{flat_map-cons}
-use Rattle.std.proofs.lemmas.Option.{same_Some, slice_get_within}
 use Rattle.aeth_reconf.proofs.WriteCounts.{before, behind}
 
 -- What an item of a list gives stands behind what those before it give.

@@ -1,16 +1,14 @@
 -- Each session has its path over the wires of its chip.
-use Rattle.std.proofs.Common.{◌≡◌, ◌⊎◌, ◌<◌, ◌∙◌, ℕ, suc, List, Some, length, slice_get, sym, subst, inl}
-use Rattle.std.proofs.Common.{inr, arith}
+use Rattle.std.proofs.Common.{◌≡◌, ◌⊎◌, ◌<◌, ◌∙◌, ℕ, suc, List, Some, length, slice_get, sym, subst}
+use Rattle.std.proofs.Common.{inl, inr, arith}
 use Rattle.std.proofs.lemmas.Option.{same_Some, slice_get_within}
-use Rattle.aeth_chip.specs.Chip.{IsChip}
-use Rattle.aeth_chip.specs.Paths.{IsPath}
+use Rattle.aeth_chip.specs.{Chip.IsChip, Paths.IsPath}
 use Rattle.aeth_report.specs.Flows.{Run}
 use Rattle.aeth_refinement.specs.Accepted.{HasPath, IsRouterPlace, IsStagePlace}
 use Rattle.aeth_refinement.specs.Fabric.{AtInterface}
-use Rattle.aeth_fabric.specs.Fabric.{Placed, fabric_over, flow_in, opposite_in, placed_at, placed_of}
-use Rattle.aeth_fabric.specs.Fabric.{row_in}
-use Rattle.aeth_fabric.specs.Paths.{wires_along}
-use Rattle.aeth_fabric.specs.Wiring.{end_of}
+use Rattle.aeth_fabric.specs.{Fabric.Placed, Fabric.fabric_over, Fabric.flow_in, Fabric.opposite_in}
+use Rattle.aeth_fabric.specs.{Fabric.placed_at, Fabric.placed_of, Fabric.row_in, Paths.wires_along}
+use Rattle.aeth_fabric.specs.{Wiring.end_of}
 use Rattle.aeth_fabric.proofs.PathHops.{GoesOn, Landed, Routed, Staged, begins, goes_on}
 
 module _ (run : Run) (is_chip : IsChip run.design.chip) (c : ℕ) (known : c < length (placed_of run))

@@ -1,21 +1,19 @@
 -- Sessions by their numbers: each is one of a channel, no two are one, and the opposite channel has
 -- one for each.
 use Rattle.std.proofs.Common.{◌≡◌, ◌<◌, ◌+◌, ◌∙◌, ℕ, zero, suc, Bool, true, List, [], ◌∷◌, Some}
-use Rattle.std.proofs.Common.{length, take, slice_get, refl, sym, ap, inl, inr, arith}
-use Rattle.std.specs.Prelude.{option_map, ◌==◌}
-use Rattle.std.specs.List.{enumerate_from, flat_map, position_or_len, range_with_len}
-use Rattle.std.proofs.lemmas.Bool.{and_from, and_parts, cases_Bool, eq-eqb, eqb-true}
+use Rattle.std.proofs.Common.{length, take, slice_get, refl, sym, ap, inl, inr, arith, option_map}
+use Rattle.std.proofs.Common.{◌==◌, eq-eqb, eqb-true}
+use Rattle.std.proofs.lemmas.Bool.{and_from, and_parts, cases_Bool}
 use Rattle.std.proofs.lemmas.List.FromFn.{get_or-range_with_len, length-range_with_len}
 use Rattle.std.proofs.lemmas.Option.{get_or_from_slice_get, same_Some, slice_get-get_or}
 use Rattle.std.proofs.lemmas.Option.{slice_get-map, slice_get_within}
+use Rattle.std.specs.List.{enumerate_from, flat_map, position_or_len, range_with_len}
 use Rattle.aeth_base.specs.declared.ids.Channel.{Channel}
-use Rattle.aeth_base.specs.declared.ids.Side.{Side}
-use Rattle.aeth_base.specs.declared.ids.Side.TheVariants.{Back, Fwd}
+use Rattle.aeth_base.specs.declared.ids.Side.{Side, TheVariants.Back, TheVariants.Fwd}
 use Rattle.aeth_base.proofs.Lists.{option_map-some}
 use Rattle.aeth_trace.specs.Channels.{is_channel, side_number}
-use Rattle.aeth_report.specs.Channels.{channels_of, channels_with, opposite}
-use Rattle.aeth_report.specs.Flows.{Run}
-use Rattle.aeth_report.specs.Sessions.{Stay}
+use Rattle.aeth_report.specs.{Channels.channels_of, Channels.channels_with, Channels.opposite}
+use Rattle.aeth_report.specs.{Flows.Run, Sessions.Stay}
 use Rattle.aeth_report.proofs.ChannelLemmas.{channels_of-known, is_channel-itself, same_channel}
 use Rattle.aeth_report.proofs.FlowPlaces.{channels_of-once}
 use Rattle.aeth_report.proofs.OneFlit.{opposite-opposite}

@@ -1,19 +1,14 @@
 -- The wires along a path: at each place that of a link, so far behind it.
-use Rattle.std.proofs.Common.{◌≡◌, ◌<◌, ◌+◌, ◌-◌, ◌∙◌, ℕ, zero, suc, true, false, List, []}
-use Rattle.std.proofs.Common.{◌∷◌, Some, length, take, slice_get, refl, sym, ap}
-use Rattle.std.proofs.Common.{arith}
-use Rattle.std.specs.Prelude.{nat_lt, sum_by}
-use Rattle.std.specs.List.{range_with_len}
-use Rattle.std.proofs.lemmas.Bool.{le-ltb, lt-ltb}
-use Rattle.std.proofs.lemmas.List.Concat.{length-flat_map}
-use Rattle.std.proofs.lemmas.List.FromFn.{get_or-map-range_with_len, length-map-range_with_len}
-use Rattle.std.proofs.lemmas.List.Sums.{sum_by-cons}
+use Rattle.std.proofs.Common.{◌≡◌, ◌<◌, ◌+◌, ◌-◌, ◌∙◌, ℕ, zero, suc, true, false, List, [], ◌∷◌}
+use Rattle.std.proofs.Common.{Some, length, take, slice_get, refl, sym, ap, arith, nat_lt, sum_by}
+use Rattle.std.proofs.Common.{le-ltb, lt-ltb}
+use Rattle.std.proofs.lemmas.List.{Concat.length-flat_map, FromFn.get_or-map-range_with_len}
+use Rattle.std.proofs.lemmas.List.{FromFn.length-map-range_with_len, Sums.sum_by-cons}
 use Rattle.std.proofs.lemmas.Option.{same_Some, slice_get-get_or, slice_get-map, slice_get_within}
-use Rattle.aeth_base.specs.declared.ids.LinkId.{LinkId}
-use Rattle.aeth_base.proofs.Lists.{option_map-some}
-use Rattle.aeth_chip.specs.Paths.{delay_of, offset, path_delay}
-use Rattle.aeth_chip.specs.Wires.{wire_at}
-use Rattle.aeth_chip.specs.declared.node.Link.{Link}
+use Rattle.std.specs.List.{range_with_len}
+use Rattle.aeth_base.{specs.declared.ids.LinkId.LinkId, proofs.Lists.option_map-some}
+use Rattle.aeth_chip.specs.{Paths.delay_of, Paths.offset, Paths.path_delay, Wires.wire_at}
+use Rattle.aeth_chip.specs.{declared.node.Link.Link}
 use Rattle.aeth_report.proofs.Places.{flat_map-place, range-place}
 use Rattle.aeth_fabric.specs.Paths.{hops_along, wires_along, wires_on}
 use Rattle.aeth_fabric.proofs.Flattened.{flat_map-at}

@@ -4,32 +4,24 @@ use Rattle.aeth_base.specs.Limits.{max_queue_words}
 use Rattle.aeth_chip.specs.Paths.{IsAdmissible}
 use Rattle.aeth_group.specs.Members.{groups_of}
 use Rattle.aeth_header.specs.Layout.{queue_bits}
-use Rattle.aeth_report.specs.Channels.{opposite}
-use Rattle.aeth_report.specs.Design.{grant_at, shape_at}
-use Rattle.aeth_report.specs.Sessions.{session_of}
-use Rattle.aeth_report.specs.Sound.{IsSound}
-use Rattle.aeth_report.proofs.OneFlit.{session-paths}
-use Rattle.aeth_report.proofs.Stays.{IsStayOf, stays_of-is}
-use Rattle.aeth_report.proofs.StaysAlone.{at-Contains}
-use Rattle.aeth_report.specs.Flows.{sessions_in}
+use Rattle.aeth_report.specs.{Channels.opposite, Design.grant_at, Design.shape_at}
+use Rattle.aeth_report.specs.{Sessions.session_of, Sound.IsSound, Flows.sessions_in}
+use Rattle.aeth_report.proofs.{OneFlit.session-paths, Stays.IsStayOf, Stays.stays_of-is}
+use Rattle.aeth_report.proofs.{StaysAlone.at-Contains}
 use Rattle.aeth_server.specs.Shape.{buffer_of}
 use Rattle.aeth_refinement.specs.Accepted.{AreApart, HasPath, IsAccepted, IsGiven}
 use Rattle.aeth_accepted.specs.Inputs.{AreAccepted, Inputs, design_of, row_at, run_of}
-use Rattle.aeth_accepted.proofs.SoundRuns.{AreSpans, is_sound}
+use Rattle.aeth_accepted.proofs.{SoundRuns.AreSpans, SoundRuns.is_sound, ApartRows.all_apart}
 use Rattle.aeth_fabric.specs.Fabric.{Placed, fabric_of, flow_in, opposite_in, passage_of, placed_at}
 use Rattle.aeth_fabric.specs.Fabric.{placed_of, row_in, stays_in}
-use Rattle.aeth_fabric.proofs.Answering.{answered, values-accepted}
-use Rattle.aeth_accepted.proofs.ApartRows.{all_apart}
-use Rattle.aeth_fabric.proofs.ApartTables.{queues_apart}
-use Rattle.aeth_fabric.proofs.ApartWires.{session_at, shares_none}
-use Rattle.aeth_fabric.proofs.FlowPaths.{has_path}
-use Rattle.aeth_fabric.proofs.Numbers.{IsPlacedAt, opposite-is, placed-there}
-use Rattle.aeth_fabric.proofs.PathHops.{route_fits}
-use Rattle.aeth_fabric.proofs.PathWires.{length-wires_along}
-use Rattle.aeth_fabric.proofs.SessionRows.{few_words, fits_remote, leads}
-use Rattle.aeth_fabric.proofs.Windows.{drained, one_entry, one_queue, one_route, ordered}
-use Rattle.aeth_fabric.proofs.WiredLemmas.{is_wired}
-use Rattle.aeth_fabric.proofs.WritableRuns.{writable}
+use Rattle.aeth_fabric.proofs.{Answering.answered, Answering.values-accepted}
+use Rattle.aeth_fabric.proofs.{ApartTables.queues_apart, ApartWires.session_at}
+use Rattle.aeth_fabric.proofs.{ApartWires.shares_none, FlowPaths.has_path, Numbers.IsPlacedAt}
+use Rattle.aeth_fabric.proofs.{Numbers.opposite-is, Numbers.placed-there, PathHops.route_fits}
+use Rattle.aeth_fabric.proofs.{PathWires.length-wires_along, SessionRows.few_words}
+use Rattle.aeth_fabric.proofs.{SessionRows.fits_remote, SessionRows.leads, Windows.drained}
+use Rattle.aeth_fabric.proofs.{Windows.one_entry, Windows.one_queue, Windows.one_route}
+use Rattle.aeth_fabric.proofs.{Windows.ordered, WiredLemmas.is_wired, WritableRuns.writable}
 
 module _ (inputs : Inputs) (accepted : AreAccepted inputs) (spans : AreSpans inputs accepted) where
   sound : IsSound (run_of inputs)

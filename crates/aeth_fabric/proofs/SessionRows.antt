@@ -1,26 +1,20 @@
 -- The rows of channels in use cases, by an accepted plan: from where to where they lead, and what they
 -- are given.
-use Rattle.std.proofs.Common.{◌≡◌, ◌≤◌, ◌<◌, ◌^◌, ◌∙◌, ℕ, true, refl, sym, ap, subst}
-use Rattle.std.proofs.Common.{arith}
+use Rattle.std.proofs.Common.{◌≡◌, ◌≤◌, ◌<◌, ◌^◌, ◌∙◌, ℕ, true, refl, sym, ap, subst, arith}
 use Rattle.aeth_base.specs.Limits.{max_queue_words}
-use Rattle.aeth_base.specs.declared.ids.Channel.{Channel}
-use Rattle.aeth_base.specs.declared.ids.NiId.{NiId}
-use Rattle.aeth_base.specs.declared.ids.Side.{Side}
-use Rattle.aeth_base.specs.declared.ids.Side.TheVariants.{Back, Fwd}
+use Rattle.aeth_base.specs.declared.ids.{Channel.Channel, NiId.NiId, Side.Side}
+use Rattle.aeth_base.specs.declared.ids.{Side.TheVariants.Back, Side.TheVariants.Fwd}
 use Rattle.aeth_chip.specs.Paths.{IsAdmissible}
 use Rattle.aeth_group.specs.Members.{group_at, groups_of, has_at}
-use Rattle.aeth_group.specs.declared.grant.Grant.{Grant}
-use Rattle.aeth_group.specs.declared.grant.SeatLine.{SeatLine}
+use Rattle.aeth_group.specs.declared.grant.{Grant.Grant, SeatLine.SeatLine}
 use Rattle.aeth_header.specs.Layout.{queue_bits}
 use Rattle.aeth_ni.specs.declared.row.ChannelRow.{ChannelRow}
 use Rattle.aeth_report.specs.Channels.{opposite, other_side as opposite_side}
 use Rattle.aeth_report.specs.Design.{grant_at, shape_at}
 use Rattle.aeth_server.specs.Shape.{Shape, buffer_of}
-use Rattle.aeth_tables.specs.Granted.{Granted, receiving_seat, sending_seat}
-use Rattle.aeth_tables.specs.Promises.{HasNumbers}
-use Rattle.aeth_tables.specs.Tables.{tables_of}
-use Rattle.aeth_tables.proofs.ListLaws.{all_has}
-use Rattle.aeth_tables.proofs.ShapeRanges.{few_credits}
+use Rattle.aeth_tables.specs.{Granted.Granted, Granted.receiving_seat, Granted.sending_seat}
+use Rattle.aeth_tables.specs.{Promises.HasNumbers, Tables.tables_of}
+use Rattle.aeth_tables.proofs.{ListLaws.all_has, ShapeRanges.few_credits}
 use Rattle.aeth_accepted.specs.Inputs.{AreAccepted, Inputs, design_of, row_at}
 use Rattle.aeth_accepted.proofs.GivenGrants.{IsGivenIn}
 use Rattle.aeth_accepted.proofs.SessionRows.{is_row, known, one, promised, reserved, row-is}

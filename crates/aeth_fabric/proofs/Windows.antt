@@ -1,17 +1,15 @@
 -- The windows of sessions: their order, and that no two sessions have a queue, a route or an entry at
 -- one time.
-use Rattle.std.proofs.Common.{◌≡◌, ◌≤◌, ◌<◌, ◌+◌, ◌∙◌, ℕ, suc, true, Option, Some, None}
-use Rattle.std.proofs.Common.{length, slice_get, refl, ap, inl, inr, arith}
-use Rattle.std.specs.Prelude.{◌==◌, IfSome, option_map, unwrap_or}
-use Rattle.std.specs.List.{list_any}
+use Rattle.std.proofs.Common.{◌≡◌, ◌≤◌, ◌<◌, ◌+◌, ◌∙◌, ℕ, suc, true, Option, Some, None, length}
+use Rattle.std.proofs.Common.{slice_get, refl, ap, inl, inr, arith, ◌==◌, IfSome, option_map}
+use Rattle.std.proofs.Common.{unwrap_or}
 use Rattle.std.proofs.Math.Nat.{le-max_right}
 use Rattle.std.proofs.lemmas.Option.{get_or_from_slice_get, slice_get_within}
+use Rattle.std.specs.List.{list_any}
 use Rattle.aeth_chip.specs.Paths.{path_delay}
 use Rattle.aeth_group.specs.Members.{GroupsData}
-use Rattle.aeth_report.specs.Design.{grant_at}
-use Rattle.aeth_report.specs.Flows.{Run}
-use Rattle.aeth_report.specs.Sessions.{Switch, close_by, go_of}
-use Rattle.aeth_report.specs.Sound.{IsSound}
+use Rattle.aeth_report.specs.{Design.grant_at, Flows.Run, Sessions.Switch, Sessions.close_by}
+use Rattle.aeth_report.specs.{Sessions.go_of, Sound.IsSound}
 use Rattle.aeth_report.proofs.Stays.{IsClosedBy, IsStayOf, stays_of-is}
 use Rattle.aeth_report.proofs.StaysAlone.{at-Contains}
 use Rattle.aeth_reconf.specs.Rows.{RowOf}
@@ -24,10 +22,9 @@ use Rattle.aeth_reconf.proofs.WindowLemmas.{in_order, slots_in_order}
 use Rattle.aeth_refinement.specs.Accepted.{HasEntry, HasRoute, IsOrdered}
 use Rattle.aeth_refinement.specs.Fabric.{IsSameQueue, Owns, server_at}
 use Rattle.aeth_accepted.specs.Inputs.{row_at}
-use Rattle.aeth_fabric.specs.Fabric.{entered_by}
-use Rattle.aeth_fabric.specs.Fabric.{Placed, cleared_by, fabric_over, flow_in, freed_by, freed_in}
-use Rattle.aeth_fabric.specs.Fabric.{no_placed, passage_of, placed_at, placed_of, row_in, slot_at}
-use Rattle.aeth_fabric.specs.Fabric.{slot_freed_in, slot_set_in, stays_in}
+use Rattle.aeth_fabric.specs.Fabric.{entered_by, Placed, cleared_by, fabric_over, flow_in, freed_by}
+use Rattle.aeth_fabric.specs.Fabric.{freed_in, no_placed, passage_of, placed_at, placed_of, row_in}
+use Rattle.aeth_fabric.specs.Fabric.{slot_at, slot_freed_in, slot_set_in, stays_in}
 use Rattle.aeth_fabric.proofs.ApartWires.{past, slot_place}
 use Rattle.aeth_fabric.proofs.Numbers.{IsPlacedAt, numbered, one_number, placed-there}
 use Rattle.aeth_fabric.proofs.PathWires.{length-wires_along}

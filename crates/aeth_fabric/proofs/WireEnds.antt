@@ -1,17 +1,13 @@
 -- Where wires start and end, by their links.
-use Rattle.std.proofs.Common.{◌≡◌, ◌<◌, ◌-◌, ◌∙◌, ℕ, zero, suc, List, Option, Some, None, refl}
-use Rattle.std.proofs.Common.{sym, ap, inl, inr, arith}
-use Rattle.std.specs.Prelude.{slice_get}
-use Rattle.std.proofs.lemmas.Bool.{eq-eqb}
+use Rattle.std.proofs.Common.{◌≡◌, ◌<◌, ◌-◌, ◌∙◌, ℕ, zero, suc, List, Option, Some, None, refl, sym}
+use Rattle.std.proofs.Common.{ap, inl, inr, arith, slice_get, eq-eqb}
 use Rattle.std.proofs.lemmas.Bool.Decides.{eqb_tells}
 use Rattle.aeth_chip.specs.Paths.{delay_in, delay_of, to_in, to_of}
 use Rattle.aeth_chip.specs.Wires.{HaveDelays, wire_at}
 use Rattle.aeth_chip.specs.declared.node.Link.{Link}
-use Rattle.aeth_chip.specs.declared.node.Node.{Node}
-use Rattle.aeth_chip.specs.declared.node.Node.TheVariants.{Ni, Router}
+use Rattle.aeth_chip.specs.declared.node.Node.{Node, TheVariants.Ni, TheVariants.Router}
 use Rattle.aeth_refinement.specs.Fabric.{AtStage}
-use Rattle.aeth_router.specs.Router.{last_wire}
-use Rattle.aeth_router.proofs.WireLemmas.{last_wire-is}
+use Rattle.aeth_router.{specs.Router.last_wire, proofs.WireLemmas.last_wire-is}
 use Rattle.aeth_fabric.specs.Wiring.{end_in, end_of, from_in, node_end, start_in, start_of}
 use Rattle.aeth_fabric.specs.Wiring.{wire_place}
 use Rattle.aeth_fabric.proofs.WirePlaces.{wire_place-at, wire_place-is}

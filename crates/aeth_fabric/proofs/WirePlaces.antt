@@ -1,11 +1,9 @@
 -- A wire has one place on one link: the two ways between numbers and places.
-use Rattle.std.proofs.Common.{◌≡◌, ◌<◌, ◌+◌, ◌-◌, ◌∙◌, ℕ, zero, suc, false, true, List, []}
-use Rattle.std.proofs.Common.{◌∷◌, Some, length, take, refl, ap, subst, inl, inr}
-use Rattle.std.proofs.Common.{arith}
-use Rattle.std.specs.Prelude.{nat_lt, slice_get}
-use Rattle.std.proofs.lemmas.Bool.{cases_lt, le-ltb, lt-ltb}
-use Rattle.std.proofs.lemmas.List.Sums.{sum_by-cons}
-use Rattle.std.proofs.lemmas.Option.{same_Some, slice_get_cases, slice_get_within}
+use Rattle.std.proofs.Common.{◌≡◌, ◌<◌, ◌+◌, ◌-◌, ◌∙◌, ℕ, zero, suc, false, true, List, [], ◌∷◌}
+use Rattle.std.proofs.Common.{Some, length, take, refl, ap, subst, inl, inr, arith, nat_lt}
+use Rattle.std.proofs.Common.{slice_get, le-ltb, lt-ltb}
+use Rattle.std.proofs.lemmas.{Bool.cases_lt, List.Sums.sum_by-cons, Option.same_Some}
+use Rattle.std.proofs.lemmas.{Option.slice_get_cases, Option.slice_get_within}
 use Rattle.aeth_base.proofs.Lists.{option_map-some}
 use Rattle.aeth_chip.specs.Wires.{HaveDelays, further_wires, wire_at}
 use Rattle.aeth_chip.specs.declared.node.Link.{Link}

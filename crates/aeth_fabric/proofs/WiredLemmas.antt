@@ -1,18 +1,17 @@
 -- The wires of a chip are wired as a fabric's are to be.
-use Rattle.std.proofs.Common.{◌≡◌, ◌<◌, ◌-◌, ◌∙◌, ℕ, zero, suc, ◌+◌, Bool, true, List, [], ◌∷◌, Option, Some, None}
-use Rattle.std.proofs.Common.{length, take, slice_get, refl, sym, ap, subst, arith, eqb}
-use Rattle.std.specs.Prelude.{count_by, option_and_then, option_map, position, slice_index, unwrap_or}
+use Rattle.std.proofs.Common.{◌≡◌, ◌<◌, ◌-◌, ◌∙◌, ℕ, zero, suc, ◌+◌, Bool, true, List, [], ◌∷◌}
+use Rattle.std.proofs.Common.{Option, Some, None, length, take, slice_get, refl, sym, ap, subst}
+use Rattle.std.proofs.Common.{arith, eqb, count_by, option_and_then, option_map, position}
+use Rattle.std.proofs.Common.{slice_index, unwrap_or}
 use Rattle.std.proofs.lemmas.Option.{none-some, same_Some, slice_get-map, slice_get_within}
-use Rattle.aeth_base.specs.declared.ids.NiId.{NiId}
-use Rattle.aeth_base.specs.declared.ids.RouterId.{RouterId}
+use Rattle.aeth_base.specs.declared.ids.{NiId.NiId, RouterId.RouterId}
 use Rattle.aeth_base.proofs.Lists.{option_map-some}
-use Rattle.aeth_chip.specs.Chip.{ChipData, IsChip, IsNode}
-use Rattle.aeth_chip.specs.Nodes.{begins_at, ends_at, numbers_from, receives_on, router_of, sends_on}
-use Rattle.aeth_chip.specs.Paths.{delay_of}
-use Rattle.aeth_chip.specs.Wires.{HaveDelays, wire_at}
-use Rattle.aeth_chip.specs.declared.node.Link.{Link}
-use Rattle.aeth_chip.specs.declared.node.Node.{Node}
-use Rattle.aeth_chip.specs.declared.node.Node.TheVariants.{Ni, Router}
+use Rattle.aeth_chip.specs.{Chip.ChipData, Chip.IsChip, Chip.IsNode, Nodes.begins_at, Nodes.ends_at}
+use Rattle.aeth_chip.specs.{Nodes.numbers_from, Nodes.receives_on, Nodes.router_of, Nodes.sends_on}
+use Rattle.aeth_chip.specs.{Paths.delay_of, Wires.HaveDelays, Wires.wire_at}
+use Rattle.aeth_chip.specs.{declared.node.Link.Link, declared.node.Node.Node}
+use Rattle.aeth_chip.specs.{declared.node.Node.TheVariants.Ni}
+use Rattle.aeth_chip.specs.{declared.node.Node.TheVariants.Router}
 use Rattle.aeth_chip.proofs.NodeLemmas.{numbers_from-at, numbers_from-once, receives_on-found}
 use Rattle.aeth_chip.proofs.NodeLemmas.{same_node-refl, same_node-true}
 use Rattle.aeth_chip.proofs.WireLemmas.{have_delays, wire_at-apart}
@@ -23,9 +22,9 @@ use Rattle.aeth_router.specs.Router.{entering_wires, last_wire}
 use Rattle.aeth_router.proofs.LinkLemmas.{position-at}
 use Rattle.aeth_fabric.specs.Wiring.{end_in, end_of, entering_of, fabric_on, leaving_of, node_end}
 use Rattle.aeth_fabric.specs.Wiring.{start_of, wire_place}
-use Rattle.aeth_fabric.proofs.WireEnds.{delay-there, ends_at-node, inner-ends}
-use Rattle.aeth_fabric.proofs.WireEnds.{last-ends, starts_at-node, starts_behind}
-use Rattle.aeth_fabric.proofs.WireEnds.{Behind, FollowsIn, NoWire, StartsBehind}
+use Rattle.aeth_fabric.proofs.WireEnds.{delay-there, ends_at-node, inner-ends, last-ends}
+use Rattle.aeth_fabric.proofs.WireEnds.{starts_at-node, starts_behind, Behind, FollowsIn, NoWire}
+use Rattle.aeth_fabric.proofs.WireEnds.{StartsBehind}
 use Rattle.aeth_fabric.proofs.WirePlaces.{wire_place-at}
 
 -- A link stands in the list of those that pass a test.

@@ -1,28 +1,19 @@
 -- The tables of accepted inputs can be written: switches take a cycle for each write.
-use Rattle.std.proofs.Common.{◌≡◌, ◌<◌, ◌&&◌, ◌∙◌, ℕ, Bool, not, List, [], ◌∷◌, filter}
-use Rattle.std.proofs.Common.{map, length, slice_get, Some, sym, ap, arith}
-use Rattle.std.specs.Prelude.{sum_by}
-use Rattle.std.specs.List.{flat_map, range_with_len}
+use Rattle.std.proofs.Common.{◌≡◌, ◌<◌, ◌&&◌, ◌∙◌, ℕ, Bool, not, List, [], ◌∷◌, filter, map, length}
+use Rattle.std.proofs.Common.{slice_get, Some, sym, ap, arith, sum_by}
 use Rattle.std.proofs.lemmas.List.Folds.{flat_map-map}
+use Rattle.std.specs.List.{flat_map, range_with_len}
 use Rattle.aeth_base.specs.declared.ids.Side.TheVariants.{Back, Fwd}
-use Rattle.aeth_base.proofs.Filters.{filter-filter, filter-map}
-use Rattle.aeth_base.proofs.Members.{filter-Contains}
+use Rattle.aeth_base.proofs.{Filters.filter-filter, Filters.filter-map, Members.filter-Contains}
 use Rattle.aeth_group.specs.Members.{group_at, groups_of, has_at, is_kept}
 use Rattle.aeth_group.proofs.MemberLemmas.{length-groups_of}
-use Rattle.aeth_ni.specs.Program.{write_count}
-use Rattle.aeth_ni.specs.declared.row.ChannelRow.{ChannelRow}
-use Rattle.aeth_reconf.specs.Rows.{rows_that}
-use Rattle.aeth_reconf.specs.Windows.{AreCounted, AreWritable}
-use Rattle.aeth_report.specs.Channels.{channels_with}
-use Rattle.aeth_report.specs.Sound.{IsSound}
-use Rattle.aeth_tables.specs.Granted.{Granted, granted_in}
-use Rattle.aeth_tables.specs.Switching.{rows_in}
-use Rattle.aeth_tables.specs.Tables.{rows_on}
-use Rattle.aeth_tables.proofs.ListLaws.{has_place}
-use Rattle.aeth_tables.proofs.UseLaws.{conns_of}
+use Rattle.aeth_ni.specs.{Program.write_count, declared.row.ChannelRow.ChannelRow}
+use Rattle.aeth_reconf.specs.{Rows.rows_that, Windows.AreCounted, Windows.AreWritable}
+use Rattle.aeth_report.specs.{Channels.channels_with, Sound.IsSound}
+use Rattle.aeth_tables.{specs.Granted.Granted, specs.Granted.granted_in, specs.Switching.rows_in}
+use Rattle.aeth_tables.{specs.Tables.rows_on, proofs.ListLaws.has_place, proofs.UseLaws.conns_of}
 use Rattle.aeth_accepted.specs.Inputs.{AreAccepted, Inputs, design_of, row_at, run_of}
-use Rattle.aeth_accepted.proofs.SoundRuns.{AreSpans}
-use Rattle.aeth_accepted.proofs.TableFlows.{row-same}
+use Rattle.aeth_accepted.proofs.{SoundRuns.AreSpans, TableFlows.row-same}
 use Rattle.aeth_fabric.proofs.Carrying.{flat_map-same, map-flat_map}
 
 module _ (inputs : Inputs) (accepted : AreAccepted inputs) where

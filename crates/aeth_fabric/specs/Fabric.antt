@@ -9,12 +9,11 @@
 --   is_opposite, opposite_in      the opposite channel's session
 --   fabric_over, fabric_of      the fabric of a run, and of inputs
 -- This project's own.
-use Rattle.std.specs.Prelude.{ℕ, ◌+◌, ◌==◌, ◌&&◌, Bool, List, Option, Some, None, flat_map, length}
-use Rattle.std.specs.Prelude.{map, max, unwrap_or}
+use Rattle.std.proofs.Common.{ℕ, ◌+◌, ◌==◌, ◌&&◌, Bool, List, Option, Some, None, flat_map, length}
+use Rattle.std.proofs.Common.{map, max, unwrap_or}
 use Rattle.std.specs.List.{enumerate_from, position_or_len, slice_index_or}
 use Rattle.aeth_base.specs.Limits.{max_path_delay}
-use Rattle.aeth_base.specs.declared.ids.Channel.{Channel}
-use Rattle.aeth_base.specs.declared.ids.Side.TheVariants.{Fwd}
+use Rattle.aeth_base.specs.declared.ids.{Channel.Channel, Side.TheVariants.Fwd}
 use Rattle.aeth_ni.specs.declared.row.ChannelRow.{ChannelRow}
 use Rattle.aeth_trace.specs.Channels.{is_channel}
 use Rattle.aeth_report.specs.Channels.{channels_of, opposite}
@@ -24,8 +23,7 @@ use Rattle.aeth_report.specs.declared.session.Session.{Session}
 use Rattle.aeth_reconf.specs.Windows.{cleared_of, freed_of, set_of, since_of, slot_set_of}
 use Rattle.aeth_refinement.specs.Fabric.{Fabric, Passage}
 use Rattle.aeth_accepted.specs.Inputs.{Inputs, row_at, run_of}
-use Rattle.aeth_fabric.specs.Paths.{hops_along, wires_along}
-use Rattle.aeth_fabric.specs.Wiring.{fabric_on}
+use Rattle.aeth_fabric.specs.{Paths.hops_along, Paths.wires_along, Wiring.fabric_on}
 
 -- The stays of a connection in a run.
 abbrev pub stays_in : Run → ℕ → List Stay

@@ -3,12 +3,10 @@
 --   wires_on, wires_along      the wires of a link, and of the links of a path
 --   hops_along      how many routers a flit has passed by at a place
 -- This project's own.
-use Rattle.std.specs.Prelude.{ℕ, suc, ◌-◌, nat_lt, if◌then◌else◌, List, [], ◌∷◌, flat_map, map}
+use Rattle.std.proofs.Common.{ℕ, suc, ◌-◌, nat_lt, if◌then◌else◌, List, [], ◌∷◌, flat_map, map}
 use Rattle.std.specs.List.{range_with_len}
 use Rattle.aeth_base.specs.declared.ids.LinkId.{LinkId}
-use Rattle.aeth_chip.specs.Paths.{delay_of}
-use Rattle.aeth_chip.specs.Wires.{wire_at}
-use Rattle.aeth_chip.specs.declared.node.Link.{Link}
+use Rattle.aeth_chip.specs.{Paths.delay_of, Wires.wire_at, declared.node.Link.Link}
 
 -- The wires of a link, in the order of travel.
 abbrev pub wires_on : List Link → LinkId → List ℕ

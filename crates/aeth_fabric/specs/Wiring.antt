@@ -7,15 +7,12 @@
 --   leaving_of, entering_of      the wires of an interface
 --   fabric_on      the fabric of a chip with some sessions
 -- This project's own.
-use Rattle.std.specs.Prelude.{ℕ, zero, suc, ◌-◌, ◌==◌, nat_lt, List, [], ◌∷◌}
-use Rattle.std.specs.Prelude.{Option, Some, None, length, option_map, slice_get, slice_index, if◌then◌else◌}
-use Rattle.aeth_chip.specs.Chip.{ChipData}
-use Rattle.aeth_chip.specs.Nodes.{receives_on, sends_on}
-use Rattle.aeth_chip.specs.Paths.{delay_of, to_of}
-use Rattle.aeth_chip.specs.Wires.{wire_at}
-use Rattle.aeth_chip.specs.declared.node.Link.{Link}
-use Rattle.aeth_chip.specs.declared.node.Node.{Node}
-use Rattle.aeth_chip.specs.declared.node.Node.TheVariants.{Ni, Router}
+use Rattle.std.proofs.Common.{ℕ, zero, suc, ◌-◌, ◌==◌, nat_lt, List, [], ◌∷◌, Option, Some, None}
+use Rattle.std.proofs.Common.{length, option_map, slice_get, slice_index, if◌then◌else◌}
+use Rattle.aeth_chip.specs.{Chip.ChipData, Nodes.receives_on, Nodes.sends_on, Paths.delay_of}
+use Rattle.aeth_chip.specs.{Paths.to_of, Wires.wire_at, declared.node.Link.Link}
+use Rattle.aeth_chip.specs.{declared.node.Node.Node, declared.node.Node.TheVariants.Ni}
+use Rattle.aeth_chip.specs.{declared.node.Node.TheVariants.Router}
 use Rattle.aeth_refinement.specs.Fabric.{AtInterface, AtRouter, AtStage, Fabric, Passage, WireEnd}
 use Rattle.aeth_report.specs.Routes.{port_of}
 use Rattle.aeth_router.specs.Router.{entering_wires, last_wire}

@@ -3,10 +3,7 @@ use Rattle.std.proofs.Common.{Ok, Err, refl}
 use Rattle.aeth_app.specs.App.{AppData}
 use Rattle.aeth_chip.specs.Chip.{ChipData}
 use Rattle.aeth_plan.specs.declared.design.Design.{Design}
-use Rattle.aeth_answers.specs.declared.answer.Stop.{Stop}
-use Rattle.aeth_answers.specs.Places.{Files}
-use Rattle.aeth_answers.specs.Stop.{Judges}
-use Rattle.aeth_answers.specs.Task.{Judging}
+use Rattle.aeth_answers.specs.{declared.answer.Stop.Stop, Places.Files, Stop.Judges, Task.Judging}
 use Rattle.aeth_answers.proofs.FileLemmas.{Judges-made, Judges-stopped, Judges-then}
 
 module _ (on_chip : Judging ChipData) (on_app : ChipData → Judging AppData) where

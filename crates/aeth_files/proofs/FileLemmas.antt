@@ -1,12 +1,8 @@
 -- Laws of a file that is read, and then judged by what its bytes tell.
-use Rattle.std.proofs.Common.{ℕ, List, Result, Ok, Err}
-use Rattle.std.specs.Prelude.{Vec}
-use Rattle.std.specs.Global.{Global}
+use Rattle.std.proofs.Common.{ℕ, List, Result, Ok, Err, Vec, Global}
 use Rattle.aeth_base.specs.Faults.{BrokenRule}
-use Rattle.aeth_answers.specs.declared.answer.Stop.{Stop}
-use Rattle.aeth_answers.specs.Files.{judged_file, judgement, text_file}
-use Rattle.aeth_answers.specs.Places.{Files}
-use Rattle.aeth_answers.specs.Stop.{Judges}
+use Rattle.aeth_answers.specs.{declared.answer.Stop.Stop, Files.judged_file, Files.judgement}
+use Rattle.aeth_answers.specs.{Files.text_file, Places.Files, Stop.Judges}
 use Rattle.aeth_answers.proofs.FileLemmas.{Judges-stopped, Judges-then}
 
 module _ {A : Type 0} (file name : List ℕ) (told_by : List ℕ → Result A BrokenRule)

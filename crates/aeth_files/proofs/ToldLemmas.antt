@@ -1,22 +1,17 @@
 -- Laws of tasks that come to a job which refuses no file and no plan: their files told values.
 use Rattle.std.proofs.Common.{◌≡◌, ◌≢◌, ◌≤◌, ℕ, List, length, Option, Some, None, Result, Ok, Err}
-use Rattle.std.proofs.Common.{refl, sym, ap, inl, inr, arith, if◌then◌else◌}
-use Rattle.std.specs.Prelude.{nat_le}
-use Rattle.std.proofs.lemmas.Bool.{cases_Bool}
-use Rattle.std.proofs.lemmas.Bool.Decides.{nat_tests}
+use Rattle.std.proofs.Common.{refl, sym, ap, inl, inr, arith, if◌then◌else◌, nat_le}
+use Rattle.std.proofs.lemmas.Bool.{cases_Bool, Decides.nat_tests}
 use Rattle.std.proofs.lemmas.Option.{none-some, same_Some}
 use Rattle.aeth_app.specs.App.{AppData}
 use Rattle.aeth_base.specs.Faults.{BrokenRule}
 use Rattle.aeth_check.specs.declared.verdict.Verdict.{Verdict}
 use Rattle.aeth_check.specs.declared.verdict.Verdict.TheVariants.{Accepted, Missing, Broken}
 use Rattle.aeth_io.specs.Limits.{max_file_bytes}
-use Rattle.aeth_answers.specs.Files.{judged_file, judgement}
-use Rattle.aeth_answers.specs.Job.{Job}
-use Rattle.aeth_answers.specs.Refusal.{refused_file, too_long}
-use Rattle.aeth_answers.specs.Status.{done_status, refused_status}
-use Rattle.aeth_answers.specs.Task.{Task, ends, job_with, told}
-use Rattle.aeth_files.specs.Plans.{on_verdict}
-use Rattle.aeth_files.specs.Told.{IsTold}
+use Rattle.aeth_answers.specs.{Files.judged_file, Files.judgement, Job.Job, Refusal.refused_file}
+use Rattle.aeth_answers.specs.{Refusal.too_long, Status.done_status, Status.refused_status}
+use Rattle.aeth_answers.specs.{Task.Task, Task.ends, Task.job_with, Task.told}
+use Rattle.aeth_files.specs.{Plans.on_verdict, Told.IsTold}
 
 -- A job with another status isn't the one that is asked for.
 other_job : {P : Type 0} (job asked : Job) → Some job ≡ Some asked → asked.status ≢ job.status → P

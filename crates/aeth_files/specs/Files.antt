@@ -4,17 +4,12 @@
 --   design_file           a chip file, and an application file for the chip
 --   plan_file             a plan text
 -- This project's own.
-use Rattle.std.specs.Prelude.{ℕ, List, codes}
-use Rattle.aeth_app.specs.App.{AppData}
-use Rattle.aeth_app.specs.AppFile.{app_of}
-use Rattle.aeth_chip.specs.Chip.{ChipData}
-use Rattle.aeth_chip.specs.ChipFile.{chip_of}
+use Rattle.std.proofs.Common.{ℕ, List, codes}
+use Rattle.aeth_app.specs.{App.AppData, AppFile.app_of}
+use Rattle.aeth_chip.specs.{Chip.ChipData, ChipFile.chip_of}
 use Rattle.aeth_group.specs.Members.{groups_of}
-use Rattle.aeth_plan.specs.Plan.{PlanData}
-use Rattle.aeth_plan.specs.PlanText.{plan_of}
-use Rattle.aeth_plan.specs.declared.design.Design.{Design}
-use Rattle.aeth_answers.specs.Files.{judged_file}
-use Rattle.aeth_answers.specs.Task.{Judging}
+use Rattle.aeth_plan.specs.{Plan.PlanData, PlanText.plan_of, declared.design.Design.Design}
+use Rattle.aeth_answers.specs.{Files.judged_file, Task.Judging}
 
 -- A chip file.
 abbrev pub chip_file : List ℕ → Judging ChipData

@@ -1,11 +1,9 @@
 -- Plans that a command judges once it has read them.
 -- This project's own.
-use Rattle.std.specs.Prelude.{ℕ, ◌++◌, List, [], codes, decimal, slice_get}
+use Rattle.std.proofs.Common.{ℕ, ◌++◌, List, [], codes, decimal, slice_get}
 use Rattle.std.specs.Option.{option_map_or}
 use Rattle.aeth_app.specs.App.{AppData}
-use Rattle.aeth_base.specs.declared.ids.ConnId.{ConnId}
-use Rattle.aeth_base.specs.declared.ids.Side.{Side}
-use Rattle.aeth_base.specs.declared.ids.Unit.{Unit as GroupUnit}
+use Rattle.aeth_base.specs.declared.ids.{ConnId.ConnId, Side.Side, Unit.Unit as GroupUnit}
 use Rattle.aeth_check.specs.Verdict.{verdict_of}
 use Rattle.aeth_check.specs.declared.verdict.Verdict.{Verdict}
 use Rattle.aeth_check.specs.declared.verdict.Verdict.TheVariants.{Accepted, Missing, Broken}
@@ -13,8 +11,7 @@ use Rattle.aeth_chip.specs.Chip.{ChipData}
 use Rattle.aeth_group.specs.Members.{groups_of}
 use Rattle.aeth_plan.specs.Plan.{PlanData}
 use Rattle.aeth_text.specs.Spelling.{side_word}
-use Rattle.aeth_answers.specs.Job.{not_granted}
-use Rattle.aeth_answers.specs.Task.{Judging, ends}
+use Rattle.aeth_answers.specs.{Job.not_granted, Task.Judging, Task.ends}
 use Rattle.aeth_files.specs.Files.{plan_file}
 
 -- The name of a connection; no bytes where there is none of that number.

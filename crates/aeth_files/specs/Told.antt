@@ -1,6 +1,6 @@
 -- What a file tells, where the shelf tells its bytes.
 -- This project's own.
-use Rattle.std.specs.Prelude.{ℕ, ◌≡◌, ◌≤◌, List, length, Option, Some, Result, Ok}
+use Rattle.std.proofs.Common.{ℕ, ◌≡◌, ◌≤◌, List, length, Option, Some, Result, Ok}
 use Rattle.aeth_base.specs.Faults.{BrokenRule}
 use Rattle.aeth_io.specs.Limits.{max_file_bytes}
 

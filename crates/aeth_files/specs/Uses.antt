@@ -1,14 +1,11 @@
 -- Use cases that a command names: a step that reads nothing.
 -- This project's own.
-use Rattle.std.specs.Prelude.{ℕ, List, Option, Some, None, codes, map}
-use Rattle.std.specs.List.{position}
-use Rattle.std.specs.Str.{bytes_eq}
+use Rattle.std.proofs.Common.{ℕ, List, Option, Some, None, codes, map}
+use Rattle.std.specs.{List.position, Str.bytes_eq}
 use Rattle.aeth_app.specs.App.{AppData}
 use Rattle.aeth_base.specs.Faults.{BrokenRule}
-use Rattle.aeth_base.specs.declared.ids.UseId.{UseId}
-use Rattle.aeth_base.specs.declared.shown.Shown.TheVariants.{Word}
-use Rattle.aeth_answers.specs.Refusal.{refused_file}
-use Rattle.aeth_answers.specs.Task.{Judging, ends}
+use Rattle.aeth_base.specs.declared.{ids.UseId.UseId, shown.Shown.TheVariants.Word}
+use Rattle.aeth_answers.specs.{Refusal.refused_file, Task.Judging, Task.ends}
 
 -- The rule that a name breaks that no use case has.
 abbrev pub unknown_use : List ℕ → BrokenRule

@@ -1,10 +1,11 @@
 -- A file of one word, and why it is refused.
-use Rattle.std.specs.Prelude.{ℕ, List, length, nat_le, Option, Some, None, Result, Ok, Err}
-use Rattle.std.specs.Prelude.{codes, if◌then◌else◌, nat_lt}
+use Rattle.std.proofs.Common.{ℕ, List, length, nat_le, Option, Some, None, Result, Ok, Err, codes}
+use Rattle.std.proofs.Common.{if◌then◌else◌, nat_lt}
 use Rattle.aeth_base.specs.Faults.{BrokenRule}
 use Rattle.aeth_base.specs.declared.shown.Shown.TheVariants.{Nothing, Number}
 use Rattle.aeth_ground_tests.specs.declared.word_file.WordFault.{WordFault}
-use Rattle.aeth_ground_tests.specs.declared.word_file.WordFault.TheVariants.{NoWord, TooLong, Memory}
+use Rattle.aeth_ground_tests.specs.declared.word_file.WordFault.TheVariants.{NoWord, TooLong}
+use Rattle.aeth_ground_tests.specs.declared.word_file.WordFault.TheVariants.{Memory}
 
 -- There is no word.
 abbrev pub no_word : BrokenRule

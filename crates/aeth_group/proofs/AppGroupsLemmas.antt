@@ -1,14 +1,12 @@
 -- What holds of the groups of an application.
 use Rattle.std.proofs.Common.{◌∙◌, ◌<◌, ℕ, length, sym, refl, arith}
 use Rattle.aeth_app.specs.App.{AppData}
-use Rattle.aeth_group.specs.AppGroups.{HasLesser, IsGroupsOf}
-use Rattle.aeth_group.specs.Groups.{group_of}
-use Rattle.aeth_group.specs.Members.{groups_of}
+use Rattle.aeth_group.specs.{AppGroups.HasLesser, AppGroups.IsGroupsOf, Groups.group_of}
+use Rattle.aeth_group.specs.{Members.groups_of}
 use Rattle.aeth_group.proofs.GroupLemmas.{group_first, group_first-lt, group_of-below}
 use Rattle.aeth_group.proofs.GroupLemmas.{group_of_from_same_group, same_group_from_group_of}
 use Rattle.aeth_group.proofs.MemberLemmas.{connections-groups_of, count-groups_of}
-use Rattle.aeth_group.proofs.MemberLemmas.{group_at-groups_of, has_at-groups_of}
-use Rattle.aeth_group.proofs.MemberLemmas.{length-groups_of}
+use Rattle.aeth_group.proofs.MemberLemmas.{group_at-groups_of, has_at-groups_of, length-groups_of}
 
 -- A group with a lesser number has a use case before all those of one with a greater.
 has_lesser : (app : AppData) (u v : ℕ) → u < length app.uses → v < length app.uses

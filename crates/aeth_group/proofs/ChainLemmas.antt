@@ -1,18 +1,16 @@
 -- Laws of chains of smooth pairs: the test `in_one_group` finds them, and being joined by one is an
 -- equivalence.
-use Rattle.std.proofs.Common.{◌≡◌, ◌<◌, ◌≤◌, ◌&&◌, ◌++◌, ℕ, zero, suc, Bool, true}
-use Rattle.std.proofs.Common.{false}
-use Rattle.std.proofs.Common.{eqb, List, [], ◌∷◌, length, refl, sym, slice_get, subst, inl, inr}
-use Rattle.std.proofs.Common.{arith}
-use Rattle.std.specs.List.{AllByRecursion, IsDistinct, list_any}
-use Rattle.std.proofs.lemmas.Bool.{and_from, and_parts, cases_Bool, eq-eqb, eqb-true, false≢true}
-use Rattle.std.proofs.lemmas.Bool.{or_cases, or_left, or_parts, or_right}
+use Rattle.std.proofs.Common.{◌≡◌, ◌<◌, ◌≤◌, ◌&&◌, ◌++◌, ℕ, zero, suc, Bool, true, false, eqb, List}
+use Rattle.std.proofs.Common.{[], ◌∷◌, length, refl, sym, slice_get, subst, inl, inr, arith, eq-eqb}
+use Rattle.std.proofs.Common.{eqb-true}
+use Rattle.std.proofs.lemmas.Bool.{and_from, and_parts, cases_Bool, false≢true, or_cases, or_left}
+use Rattle.std.proofs.lemmas.Bool.{or_parts, or_right}
 use Rattle.std.proofs.lemmas.Map.Keys.{IsDistinct-cons, IsDistinct-head, IsDistinct-tail}
 use Rattle.std.proofs.lemmas.Map.Steps.{length-le_from_distinct_below}
+use Rattle.std.specs.List.{AllByRecursion, IsDistinct, list_any}
 use Rattle.aeth_app.specs.App.{UseData, is_smooth, names_smooth_in}
-use Rattle.aeth_group.specs.Chains.{SameGroup, SmoothChain}
-use Rattle.aeth_group.specs.Groups.{in_one_group, is_chained}
-use Rattle.aeth_group.specs.Marks.{IsTransitive}
+use Rattle.aeth_group.specs.{Chains.SameGroup, Chains.SmoothChain, Groups.in_one_group}
+use Rattle.aeth_group.specs.{Groups.is_chained, Marks.IsTransitive}
 use Rattle.aeth_group.proofs.Ranges.{any_from_passer, passer_from_any}
 
 -- ---- being joined by a chain is an equivalence

@@ -1,10 +1,8 @@
 -- The closed table of smooth pairs says which use cases are in one group.
-use Rattle.std.proofs.Common.{◌≡◌, ◌<◌, ℕ, Bool, true, List, [], ◌∷◌, length, refl}
-use Rattle.std.proofs.Common.{subst, inl, inr}
+use Rattle.std.proofs.Common.{◌≡◌, ◌<◌, ℕ, Bool, true, List, [], ◌∷◌, length, refl, subst, inl, inr}
 use Rattle.aeth_app.specs.App.{UseData}
-use Rattle.aeth_group.specs.Chains.{SmoothChain}
-use Rattle.aeth_group.specs.Groups.{in_one_group}
-use Rattle.aeth_group.specs.Marks.{IsClosure, IsPair, IsTransitive, marked}
+use Rattle.aeth_group.specs.{Chains.SmoothChain, Groups.in_one_group, Marks.IsClosure, Marks.IsPair}
+use Rattle.aeth_group.specs.{Marks.IsTransitive, Marks.marked}
 use Rattle.aeth_group.proofs.ChainLemmas.{in_one_group-refl, in_one_group-trans}
 use Rattle.aeth_group.proofs.ChainLemmas.{in_one_group_from_same_group, same_group-smooth}
 use Rattle.aeth_group.proofs.ChainLemmas.{same_group_from_in_one_group}

@@ -1,7 +1,7 @@
 -- Laws of conflicts: grants conflict exactly where a use case has both at one slot of one link.
-use Rattle.std.proofs.Common.{◌≡◌, ◌∙◌, ◌&&◌, ◌==◌, ℕ, Bool, true, List, Some, slice_get}
-use Rattle.std.proofs.Common.{sym, ap, inl, inr}
-use Rattle.std.proofs.lemmas.Bool.{and_from, and_parts, eqb-true, false≢true}
+use Rattle.std.proofs.Common.{◌≡◌, ◌∙◌, ◌&&◌, ◌==◌, ℕ, Bool, true, List, Some, slice_get, sym, ap}
+use Rattle.std.proofs.Common.{inl, inr, eqb-true}
+use Rattle.std.proofs.lemmas.Bool.{and_from, and_parts, false≢true}
 use Rattle.std.proofs.lemmas.Option.{slice_get-get_or, slice_get_cases}
 use Rattle.aeth_chip.specs.declared.node.Link.{Link}
 use Rattle.aeth_app.specs.App.{is_marked}

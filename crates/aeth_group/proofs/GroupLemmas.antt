@@ -1,23 +1,20 @@
 -- Laws of groups: their numbers tell which use cases chains of smooth pairs join; each number below
 -- that of groups is one; and they ascend with the least use cases.
-use Rattle.std.proofs.Common.{◌≡◌, ◌∙◌, ◌<◌, ◌≤◌, ℕ, Bool, List, length, sym, ap}
-use Rattle.std.proofs.Common.{inl, inr, arith}
+use Rattle.std.proofs.Common.{◌≡◌, ◌∙◌, ◌<◌, ◌≤◌, ℕ, Bool, List, length, sym, ap, inl, inr, arith}
 use Rattle.std.proofs.lemmas.Bool.{cases_order}
+use Rattle.std.proofs.lemmas.List.{FromFn.length-range_with_len, Sums.count_by-le-length}
 use Rattle.std.specs.List.{range_with_len}
-use Rattle.std.proofs.lemmas.List.FromFn.{length-range_with_len}
-use Rattle.std.proofs.lemmas.List.Sums.{count_by-le-length}
 use Rattle.aeth_app.specs.App.{UseData}
-use Rattle.aeth_group.specs.Chains.{SameGroup}
-use Rattle.aeth_group.specs.Groups.{group_count, group_of, in_one_group}
-use Rattle.aeth_group.specs.Marks.{marked}
-use Rattle.aeth_group.specs.Numbering.{class_of, first_with, firsts_below, is_first}
+use Rattle.aeth_group.specs.{Chains.SameGroup, Groups.group_count, Groups.group_of}
+use Rattle.aeth_group.specs.{Groups.in_one_group, Marks.marked, Numbering.class_of}
+use Rattle.aeth_group.specs.{Numbering.first_with, Numbering.firsts_below, Numbering.is_first}
 use Rattle.aeth_group.proofs.ChainLemmas.{in_one_group-refl, in_one_group-sym, in_one_group-trans}
 use Rattle.aeth_group.proofs.ChainLemmas.{in_one_group_from_same_group}
 use Rattle.aeth_group.proofs.ChainLemmas.{same_group_from_in_one_group}
 use Rattle.aeth_group.proofs.NumberingLemmas.{AreClasses, class_first, class_of-below, class_of-lt}
 use Rattle.aeth_group.proofs.NumberingLemmas.{class_of-same, class_of-joined, first_with-least}
-use Rattle.aeth_group.proofs.NumberingLemmas.{belongs_to_first, first_with-low}
-use Rattle.aeth_group.proofs.NumberingLemmas.{firsts_below-same, joined_from_class}
+use Rattle.aeth_group.proofs.NumberingLemmas.{belongs_to_first, first_with-low, firsts_below-same}
+use Rattle.aeth_group.proofs.NumberingLemmas.{joined_from_class}
 
 -- Being in one group is an equivalence.
 groups_are_classes : (uses : List UseData) → AreClasses (in_one_group uses) (length uses)

@@ -1,9 +1,8 @@
 -- How the groups of an application are made: use case by use case.
-use Rattle.std.proofs.Common.{◌≡◌, ◌∙◌, ◌+◌, ◌++◌, ℕ, List, [], ◌∷◌, length, map, sym}
-use Rattle.std.proofs.Common.{ap, ap₂, arith}
-use Rattle.std.specs.Prelude.{Bool}
-use Rattle.std.specs.List.{range_with_len}
+use Rattle.std.proofs.Common.{◌≡◌, ◌∙◌, ◌+◌, ◌++◌, ℕ, List, [], ◌∷◌, length, map, sym, ap, ap₂}
+use Rattle.std.proofs.Common.{arith, Bool}
 use Rattle.std.proofs.lemmas.List.FromFn.{map-range_with_len_more}
+use Rattle.std.specs.List.{range_with_len}
 use Rattle.aeth_app.specs.App.{AppData, has_connection}
 use Rattle.aeth_group.specs.Groups.{group_count, group_of}
 use Rattle.aeth_group.specs.Members.{GroupsData, UseGroupData, groups_of, use_group}

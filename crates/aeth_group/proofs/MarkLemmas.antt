@@ -1,22 +1,16 @@
 -- Laws of tables of marks: what one more mark changes, and how a table is closed by marking.
-use Rattle.std.proofs.Common.{◌≡◌, ◌≢◌, ◌∙◌, ◌<◌, ◌+◌, ◌⊎◌, ◌&&◌, ℕ, zero, suc, Bool, true}
-use Rattle.std.proofs.Common.{false}
+use Rattle.std.proofs.Common.{◌≡◌, ◌≢◌, ◌∙◌, ◌<◌, ◌+◌, ◌⊎◌, ◌&&◌, ℕ, zero, suc, Bool, true, false}
 use Rattle.std.proofs.Common.{not, cond, List, length, slice_get, get_or, set, replicate, refl, sym}
-use Rattle.std.proofs.Common.{ap, subst, inl, inr, arith}
-use Rattle.std.specs.Prelude.{ltb, unwrap_or}
-use Rattle.std.specs.Bool.{OnFalse}
-use Rattle.std.proofs.lemmas.Bool.{and_from, and_parts, and_right, cases_Bool, cases_eq, cases_lt}
-use Rattle.std.proofs.lemmas.Bool.{lt-ltb}
-use Rattle.std.proofs.lemmas.Bool.{ltb-true, OnTrue_at, OnFalse_at}
-use Rattle.std.proofs.lemmas.Bool.{OnFalse_from}
+use Rattle.std.proofs.Common.{ap, subst, inl, inr, arith, ltb, unwrap_or, lt-ltb, ltb-true}
+use Rattle.std.proofs.lemmas.{Bool.and_from, Bool.and_parts, Bool.and_right, Bool.cases_Bool}
+use Rattle.std.proofs.lemmas.{Bool.cases_eq, Bool.cases_lt, Bool.OnTrue_at, Bool.OnFalse_at}
+use Rattle.std.proofs.lemmas.{Bool.OnFalse_from, List.Sums.sum_by-set, Option.slice_get-get_or}
 use Rattle.std.proofs.Math.ListN.{length-set}
-use Rattle.std.proofs.lemmas.List.Sums.{sum_by-set}
-use Rattle.std.proofs.lemmas.Option.{slice_get-get_or}
+use Rattle.std.specs.Bool.{OnFalse}
 use Rattle.aeth_base.proofs.Lists.{slice_get-slice_set_same, slice_get-slice_set_other}
-use Rattle.aeth_app.specs.App.{is_marked}
-use Rattle.aeth_app.specs.Limits.{max_uses}
-use Rattle.aeth_group.specs.Marks.{Extends}
-use Rattle.aeth_group.specs.Marks.{Spreads, marked, pair_place, places, unmarked, with_mark}
+use Rattle.aeth_app.specs.{App.is_marked, Limits.max_uses}
+use Rattle.aeth_group.specs.Marks.{Extends, Spreads, marked, pair_place, places, unmarked}
+use Rattle.aeth_group.specs.Marks.{with_mark}
 
 -- ---- one more mark
 

@@ -1,15 +1,14 @@
 -- Laws of the groups of an application: what their readers tell, over the application.
-use Rattle.std.proofs.Common.{◌≡◌, ◌∙◌, ◌<◌, ℕ, false}
-use Rattle.std.proofs.Common.{◌≤◌, length, map, refl, sym, ap, subst, arith}
-use Rattle.std.specs.Prelude.{All, Some, slice_get, unwrap_or}
-use Rattle.std.specs.List.{range_with_len}
+use Rattle.std.proofs.Common.{◌≡◌, ◌∙◌, ◌<◌, ℕ, false, ◌≤◌, length, map, refl, sym, ap, subst}
+use Rattle.std.proofs.Common.{arith, All, Some, slice_get, unwrap_or}
 use Rattle.std.proofs.lemmas.List.FromFn.{get_or-map-range_with_len, length-map-range_with_len}
 use Rattle.std.proofs.lemmas.Option.{slice_get-get_or}
+use Rattle.std.specs.List.{range_with_len}
 use Rattle.aeth_app.specs.App.{AppData, has_connection, is_marked}
 use Rattle.aeth_app.specs.Limits.{max_connections, max_uses}
 use Rattle.aeth_group.specs.Groups.{group_count, group_of}
-use Rattle.aeth_group.specs.Members.{IsGroups, UseGroupData, group_at, group_in}
-use Rattle.aeth_group.specs.Members.{groups_of, has_at, use_group, use_has}
+use Rattle.aeth_group.specs.Members.{IsGroups, UseGroupData, group_at, group_in, groups_of, has_at}
+use Rattle.aeth_group.specs.Members.{use_group, use_has}
 use Rattle.aeth_group.proofs.GroupLemmas.{group_count-le, group_of-below}
 
 -- ---- all use cases

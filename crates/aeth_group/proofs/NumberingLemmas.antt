@@ -1,14 +1,13 @@
 -- Laws of the numbers of classes.
-use Rattle.std.proofs.Common.{◌≡◌, ◌∙◌, ◌<◌, ◌≤◌, ℕ, Bool, true, false, eqb, length}
-use Rattle.std.proofs.Common.{get_or, sym, ap, subst, inl, inr, arith}
-use Rattle.std.specs.List.{range_with_len}
-use Rattle.std.proofs.lemmas.Bool.{both_ways, cases_lt, cases_order, eq-eqb, eqb-true}
+use Rattle.std.proofs.Common.{◌≡◌, ◌∙◌, ◌<◌, ◌≤◌, ℕ, Bool, true, false, eqb, length, get_or, sym}
+use Rattle.std.proofs.Common.{ap, subst, inl, inr, arith, eq-eqb, eqb-true}
+use Rattle.std.proofs.lemmas.Bool.{both_ways, cases_lt, cases_order}
 use Rattle.std.proofs.lemmas.List.FromFn.{get_or-range_with_len, length-range_with_len}
 use Rattle.std.proofs.lemmas.List.Sums.{fails_before_first, passes_at_first, position_or_len_is}
 use Rattle.std.proofs.lemmas.List.Sums.{prefix_len-le-length}
+use Rattle.std.specs.List.{range_with_len}
 use Rattle.aeth_group.specs.Numbering.{class_of, first_with, firsts_below, is_first}
-use Rattle.aeth_group.proofs.Ranges.{count_by-range_lt, count_by-range_same}
-use Rattle.aeth_group.proofs.Ranges.{nth_passer}
+use Rattle.aeth_group.proofs.Ranges.{count_by-range_lt, count_by-range_same, nth_passer}
 
 -- ---- the least number that belongs to a number
 

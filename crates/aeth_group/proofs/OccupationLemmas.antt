@@ -1,17 +1,14 @@
 -- Laws of occupation: a path with one more link, and the fact that the test decides.
 use Rattle.std.proofs.Common.{◌≡◌, ◌∙◌, ◌+◌, ◌%◌, ◌++◌, ◌&&◌, ◌||◌, ℕ, zero, suc, Bool, true, eqb}
-use Rattle.std.proofs.Common.{List, [], ◌∷◌, Contains, Some, slice_get, take, refl, sym, ap, inl, inr}
-use Rattle.std.proofs.Common.{arith, false}
-use Rattle.std.specs.Bool.{Decides}
-use Rattle.std.specs.List.{list_any}
+use Rattle.std.proofs.Common.{List, [], ◌∷◌, Contains, Some, slice_get, take, refl, sym, ap, inl}
+use Rattle.std.proofs.Common.{inr, arith, false, eqb-true, eq-eqb}
 use Rattle.std.proofs.Math.Bool.{or-false}
-use Rattle.std.proofs.lemmas.Bool.{and_from, and_parts, or_cases, or_left, or_right, eqb-true}
-use Rattle.std.proofs.lemmas.Bool.{eq-eqb, false≢true}
+use Rattle.std.proofs.lemmas.Bool.{and_from, and_parts, or_cases, or_left, or_right, false≢true}
 use Rattle.std.proofs.lemmas.Option.{same_Some, none-some}
 use Rattle.std.proofs.lemmas.List.Sums.{sum_by-cons}
+use Rattle.std.specs.{Bool.Decides, List.list_any}
 use Rattle.aeth_base.specs.declared.ids.LinkId.{LinkId}
-use Rattle.aeth_chip.specs.declared.node.Link.{Link}
-use Rattle.aeth_chip.specs.Paths.{delay_of, offset, path_delay}
+use Rattle.aeth_chip.specs.{declared.node.Link.Link, Paths.delay_of, Paths.offset, Paths.path_delay}
 use Rattle.aeth_slots.specs.SlotSet.{Slots}
 use Rattle.aeth_group.specs.declared.grant.Grant.{Grant}
 use Rattle.aeth_group.specs.Occupation.{enters, occupies, Occupies}

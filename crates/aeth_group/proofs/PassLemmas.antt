@@ -1,15 +1,14 @@
 -- Laws of a pass over a table of marks, and of the table that it starts from.
 use Rattle.std.proofs.Common.{◌≡◌, ◌∙◌, ◌<◌, ◌≤◌, ◌+◌, ◌⊎◌, ℕ, Bool, true, false, List, length}
 use Rattle.std.proofs.Common.{replicate, sym, ap, subst, inl, inr, arith}
-use Rattle.std.specs.Bool.{OnFalse}
 use Rattle.std.proofs.lemmas.Bool.{cases_eq, cases_lt, false≢true, OnFalse_at, OnFalse_from}
-use Rattle.aeth_app.specs.App.{UseData}
-use Rattle.aeth_app.specs.Limits.{max_uses}
+use Rattle.std.specs.Bool.{OnFalse}
+use Rattle.aeth_app.specs.{App.UseData, Limits.max_uses}
 use Rattle.aeth_group.specs.Marks.{IsPair, IsTransitive, LeadsOver, Spreads, marked, places}
 use Rattle.aeth_group.specs.Marks.{with_mark}
-use Rattle.aeth_group.proofs.MarkLemmas.{marked-none, marked-with_mark_cases}
-use Rattle.aeth_group.proofs.MarkLemmas.{marked-with_mark_kept, marked-with_mark_same}
-use Rattle.aeth_group.proofs.MarkLemmas.{marked_first, marked_second, spreads-both, spreads-refl}
+use Rattle.aeth_group.proofs.MarkLemmas.{marked-none, marked-with_mark_cases, marked-with_mark_kept}
+use Rattle.aeth_group.proofs.MarkLemmas.{marked-with_mark_same, marked_first, marked_second}
+use Rattle.aeth_group.proofs.MarkLemmas.{spreads-both, spreads-refl}
 
 -- A pair comes before another, row by row.
 pub IsBefore : ℕ → ℕ → ℕ → ℕ → Type 0

@@ -1,12 +1,10 @@
 -- Laws of the numbers below a count: tests of some of them, and how many pass.
-use Rattle.std.proofs.Common.{◌≡◌, ◌∙◌, ◌<◌, ◌≤◌, ◌+◌, ℕ, zero, suc, Bool, true, false, cond}
-use Rattle.std.proofs.Common.{refl, sym, ap, inl, inr, add-one, arith}
-use Rattle.std.specs.Prelude.{count_by}
+use Rattle.std.proofs.Common.{◌≡◌, ◌∙◌, ◌<◌, ◌≤◌, ◌+◌, ℕ, zero, suc, Bool, true, false, cond, refl}
+use Rattle.std.proofs.Common.{sym, ap, inl, inr, add-one, arith, count_by}
+use Rattle.std.proofs.lemmas.{Bool.cases_Bool, Bool.cases_lt, List.FromFn.get_or-range_with_len}
+use Rattle.std.proofs.lemmas.{List.FromFn.length-range_with_len, List.Folds.Any-from_list_any}
+use Rattle.std.proofs.lemmas.{List.Folds.list_any-from_Any, List.Sums.sum_by_push}
 use Rattle.std.specs.List.{list_any, range_with_len}
-use Rattle.std.proofs.lemmas.Bool.{cases_Bool, cases_lt}
-use Rattle.std.proofs.lemmas.List.FromFn.{get_or-range_with_len, length-range_with_len}
-use Rattle.std.proofs.lemmas.List.Folds.{Any-from_list_any, list_any-from_Any}
-use Rattle.std.proofs.lemmas.List.Sums.{sum_by_push}
 use Rattle.aeth_base.proofs.Ranges.{range_with_len-more}
 
 -- ---- some number passes a test

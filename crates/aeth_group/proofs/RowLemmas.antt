@@ -1,20 +1,18 @@
 -- Laws of the use cases of a group.
-use Rattle.std.proofs.Common.{◌≡◌, ◌∙◌, ◌<◌, ◌≤◌, ◌+◌, ◌++◌, ◌&&◌, ◌||◌, ℕ, Bool, true, false}
-use Rattle.std.proofs.Common.{cond, eqb, List, [], ◌∷◌, Some, suc, length, slice_get}
-use Rattle.std.proofs.Common.{get_or, filter, drop, refl, sym, ap, inl, inr, arith}
-use Rattle.std.specs.List.{list_any, range_with_len}
-use Rattle.std.proofs.lemmas.Bool.{and_from, and_parts, cases_lt, false≢true, ne_eqb}
-use Rattle.std.proofs.lemmas.List.{append-nil, drop_all, drop_more, get_or_default}
-use Rattle.std.proofs.lemmas.List.Elements.{filter-append}
+use Rattle.std.proofs.Common.{◌≡◌, ◌∙◌, ◌<◌, ◌≤◌, ◌+◌, ◌++◌, ◌&&◌, ◌||◌, ℕ, Bool, true, false, cond}
+use Rattle.std.proofs.Common.{eqb, List, [], ◌∷◌, Some, suc, length, slice_get, get_or, filter}
+use Rattle.std.proofs.Common.{drop, refl, sym, ap, inl, inr, arith, ne_eqb, append-nil}
+use Rattle.std.proofs.lemmas.Bool.{and_from, and_parts, cases_lt, false≢true}
+use Rattle.std.proofs.lemmas.List.{drop_all, drop_more, get_or_default, Elements.filter-append}
 use Rattle.std.proofs.lemmas.Map.Views.{any-filter_same}
 use Rattle.std.proofs.lemmas.Option.{same_Some, slice_get-get_or, slice_get_past}
+use Rattle.std.specs.List.{list_any, range_with_len}
 use Rattle.aeth_base.specs.declared.ids.Unit.{Unit as GroupUnit}
-use Rattle.aeth_base.proofs.Filters.{filter-all_fail}
-use Rattle.aeth_base.proofs.Members.{filter-Contains}
-use Rattle.aeth_base.proofs.Ranges.{range-Contains, range_with_len-more}
+use Rattle.aeth_base.proofs.{Filters.filter-all_fail, Members.filter-Contains}
+use Rattle.aeth_base.proofs.{Ranges.range-Contains, Ranges.range_with_len-more}
 use Rattle.aeth_app.specs.App.{is_marked}
-use Rattle.aeth_group.specs.Members.{GroupsData, IsGroups, UseGroupData, group_at, has_at}
-use Rattle.aeth_group.specs.Members.{has_unit, is_member}
+use Rattle.aeth_group.specs.Members.{GroupsData, IsGroups, UseGroupData, group_at, has_at, has_unit}
+use Rattle.aeth_group.specs.Members.{is_member}
 use Rattle.aeth_group.specs.Rows.{uses_of}
 use Rattle.aeth_group.proofs.ListLemmas.{any_from_passes, passes_from_any, same_tests}
 use Rattle.aeth_group.proofs.Ranges.{any_from_passer, passer_from_any}

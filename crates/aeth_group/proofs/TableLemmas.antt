@@ -1,24 +1,20 @@
 -- Laws of tables of slots: what a write to one mask changes, and changes one after the other.
-use Rattle.std.proofs.Common.{◌≡◌, ◌≢◌, ◌∙◌, ◌<◌, ◌+◌, ◌*◌, ◌%◌, ◌&&◌, ◌||◌, ℕ, Bool}
-use Rattle.std.proofs.Common.{true, false, not, cond, eqb, List, length, Some, slice_get}
-use Rattle.std.proofs.Common.{set, get_or, take, refl, sym, ap, inl, inr, arith, zero-add}
-use Rattle.std.proofs.Math.Bool.{and-or_distrib_left}
-use Rattle.std.proofs.lemmas.Nat.{same_from_place}
-use Rattle.std.proofs.lemmas.Bool.{and_left, and_right, both_ways, cases_eq, eq-eqb, eqb-true}
-use Rattle.std.proofs.lemmas.Bool.{ne_eqb, not-true}
-use Rattle.std.proofs.lemmas.Bool.{not_from_false}
-use Rattle.std.proofs.Math.ListN.{length-set}
-use Rattle.std.proofs.lemmas.Option.{same_Some, slice_get-get_or}
+use Rattle.std.proofs.Common.{◌≡◌, ◌≢◌, ◌∙◌, ◌<◌, ◌+◌, ◌*◌, ◌%◌, ◌&&◌, ◌||◌, ℕ, Bool, true, false}
+use Rattle.std.proofs.Common.{not, cond, eqb, List, length, Some, slice_get, set, get_or, take}
+use Rattle.std.proofs.Common.{refl, sym, ap, inl, inr, arith, zero-add, eq-eqb, eqb-true, ne_eqb}
+use Rattle.std.proofs.Math.{Bool.and-or_distrib_left, ListN.length-set}
+use Rattle.std.proofs.lemmas.{Nat.same_from_place, Bool.and_left, Bool.and_right, Bool.both_ways}
+use Rattle.std.proofs.lemmas.{Bool.cases_eq, Bool.not-true, Bool.not_from_false, Option.same_Some}
+use Rattle.std.proofs.lemmas.{Option.slice_get-get_or}
 use Rattle.aeth_base.proofs.Lists.{slice_get-slice_set_same, slice_get-slice_set_other}
-use Rattle.aeth_slots.specs.SlotSet.{Slots, has_slot, rotated, slots_where, without}
 use Rattle.aeth_base.proofs.Members.{Contains-filter, filter-Contains}
+use Rattle.aeth_base.specs.declared.ids.LinkId.{LinkId}
+use Rattle.aeth_slots.specs.SlotSet.{Slots, has_slot, rotated, slots_where, without}
 use Rattle.aeth_slots.proofs.Ascending.{Ascends-filter}
 use Rattle.aeth_slots.proofs.SlotSetLemmas.{Contains-rotated}
 use Rattle.aeth_slots.proofs.TestLemmas.{Ascends-where, Contains-where, has_slot-Decides}
 use Rattle.aeth_slots.proofs.TestLemmas.{has_slot-where, is_where, where-same}
-use Rattle.aeth_base.specs.declared.ids.LinkId.{LinkId}
-use Rattle.aeth_chip.specs.declared.node.Link.{Link}
-use Rattle.aeth_chip.specs.Paths.{offset}
+use Rattle.aeth_chip.specs.{declared.node.Link.Link, Paths.offset}
 use Rattle.aeth_group.specs.Occupation.{enters}
 use Rattle.aeth_group.specs.Tables.{Changes, HasTable, IsTable, changed, hits_row}
 use Rattle.aeth_group.proofs.ListLemmas.{any_from_passes, passes_from_any, same_tests, take-at}

@@ -1,15 +1,13 @@
 -- Laws of tables of slots: what a unit's use cases change.
-use Rattle.std.proofs.Common.{◌≡◌, ◌+◌, ◌&&◌, ◌||◌, ℕ, Bool, true, false, eqb, List, length}
-use Rattle.std.proofs.Common.{ltb, refl, inl, inr, arith}
+use Rattle.std.proofs.Common.{◌≡◌, ◌+◌, ◌&&◌, ◌||◌, ℕ, Bool, true, false, eqb, List, length, ltb}
+use Rattle.std.proofs.Common.{refl, inl, inr, arith, eq-eqb, le-ltb, lt-ltb, ne_eqb}
 use Rattle.std.proofs.Math.Bool.{or-false}
-use Rattle.std.proofs.lemmas.Bool.{cases_eq, cases_lt, eq-eqb, le-ltb, lt-ltb, ne_eqb}
-use Rattle.aeth_base.specs.declared.ids.LinkId.{LinkId}
-use Rattle.aeth_base.specs.declared.ids.Unit.{Unit as GroupUnit}
+use Rattle.std.proofs.lemmas.Bool.{cases_eq, cases_lt}
+use Rattle.aeth_base.specs.declared.ids.{LinkId.LinkId, Unit.Unit as GroupUnit}
 use Rattle.aeth_chip.specs.declared.node.Link.{Link}
 use Rattle.aeth_slots.specs.SlotSet.{Slots}
-use Rattle.aeth_group.specs.Members.{GroupsData, has_unit}
-use Rattle.aeth_group.specs.Occupation.{enters}
-use Rattle.aeth_group.specs.Tables.{Changes, hits_row, hits_uses}
+use Rattle.aeth_group.specs.{Members.GroupsData, Members.has_unit, Occupation.enters}
+use Rattle.aeth_group.specs.{Tables.Changes, Tables.hits_row, Tables.hits_uses}
 use Rattle.aeth_group.proofs.TableLemmas.{changes-same, changes-then}
 
 next_use : (has : ℕ → Bool) (v u : ℕ) (e : Bool) → has u ≡ true

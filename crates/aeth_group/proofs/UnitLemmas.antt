@@ -1,17 +1,14 @@
 -- Laws of the list of units: which are in it, and what one more connection adds.
-use Rattle.std.proofs.Common.{◌≡◌, ◌∙◌, ◌<◌, ◌≤◌, ◌+◌, ◌*◌, ℕ, suc, true, []}
-use Rattle.std.proofs.Common.{length, Contains, sym, ap, subst, add-one, arith}
-use Rattle.std.proofs.Common.{length-append}
-use Rattle.std.specs.Prelude.{count_by, filter, flat_map}
+use Rattle.std.proofs.Common.{◌≡◌, ◌∙◌, ◌<◌, ◌≤◌, ◌+◌, ◌*◌, ℕ, suc, true, [], length, Contains, sym}
+use Rattle.std.proofs.Common.{ap, subst, add-one, arith, length-append, count_by, filter, flat_map}
+use Rattle.std.proofs.lemmas.List.{flat_map_more, length-map, Sums.length-filter}
 use Rattle.std.specs.List.{range_with_len}
-use Rattle.std.proofs.lemmas.List.{flat_map_more, length-map}
-use Rattle.std.proofs.lemmas.List.Sums.{length-filter}
 use Rattle.aeth_base.specs.declared.ids.Unit.{Unit as GroupUnit}
 use Rattle.aeth_base.proofs.Members.{Contains-filter, Contains-flat_map, Contains-map}
 use Rattle.aeth_base.proofs.Members.{filter-Contains, flat_map-Contains, map-Contains}
+use Rattle.aeth_base.proofs.Ranges.{Contains-range, range-Contains, range_with_len-more}
 use Rattle.aeth_app.specs.Limits.{max_uses}
 use Rattle.aeth_group.specs.Members.{GroupsData, is_member, units_of, units_with}
-use Rattle.aeth_base.proofs.Ranges.{Contains-range, range-Contains, range_with_len-more}
 
 -- ---- which units there are
 

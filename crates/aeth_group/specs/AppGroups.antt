@@ -5,10 +5,9 @@
 --   HasLesser      a group has a use case before another
 --   IsGroupsOf      what holds of the groups of an application
 -- This project's own.
-use Rattle.std.specs.Prelude.{◌≡◌, ◌<◌, ◌↔◌, ℕ, List, length}
+use Rattle.std.proofs.Common.{◌≡◌, ◌<◌, ◌↔◌, ℕ, List, length}
 use Rattle.aeth_app.specs.App.{AppData, UseData, has_connection}
-use Rattle.aeth_group.specs.Chains.{SameGroup}
-use Rattle.aeth_group.specs.Members.{GroupsData, group_at, has_at}
+use Rattle.aeth_group.specs.{Chains.SameGroup, Members.GroupsData, Members.group_at, Members.has_at}
 
 -- Two use cases have one group exactly where a chain of smooth pairs joins them.
 abbrev pub AreJoined : List UseData → GroupsData → Type 0

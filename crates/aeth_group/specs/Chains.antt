@@ -1,6 +1,6 @@
 -- Chains of smooth pairs, which join use cases into groups.
 -- This project's own.
-use Rattle.std.specs.Prelude.{◌≡◌, ◌<◌, ℕ, List, [], ◌∷◌, IsTrue, length}
+use Rattle.std.proofs.Common.{◌≡◌, ◌<◌, ℕ, List, [], ◌∷◌, IsTrue, length}
 use Rattle.aeth_app.specs.App.{UseData, is_smooth}
 
 -- A list of use cases leads from one use case to another: the first of them is smooth with the one,

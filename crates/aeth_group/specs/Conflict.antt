@@ -1,10 +1,9 @@
 -- Conflicts of grants.
 -- Slots and links: after Æthereal (2005). Groups: this project's own.
-use Rattle.std.specs.Prelude.{◌≡◌, ℕ, IsTrue, List}
+use Rattle.std.proofs.Common.{◌≡◌, ℕ, IsTrue, List}
 use Rattle.aeth_chip.specs.declared.node.Link.{Link}
-use Rattle.aeth_group.specs.declared.grant.Grant.{Grant}
-use Rattle.aeth_group.specs.Members.{GroupsData, are_together}
-use Rattle.aeth_group.specs.Occupation.{Occupies, holds_in}
+use Rattle.aeth_group.specs.{declared.grant.Grant.Grant, Members.GroupsData, Members.are_together}
+use Rattle.aeth_group.specs.{Occupation.Occupies, Occupation.holds_in}
 
 -- Two grants of one group conflict: their connections are together in it, and they occupy one slot of
 -- one link. Grants of different groups never conflict.

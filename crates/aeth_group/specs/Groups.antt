@@ -5,7 +5,7 @@
 --   group_of      the number of a use case's group
 --   group_count      how many groups there are
 -- This project's own.
-use Rattle.std.specs.Prelude.{ℕ, zero, suc, ◌==◌, ◌&&◌, ◌||◌, Bool, List, length}
+use Rattle.std.proofs.Common.{ℕ, zero, suc, ◌==◌, ◌&&◌, ◌||◌, Bool, List, length}
 use Rattle.std.specs.List.{list_any, range_with_len}
 use Rattle.aeth_app.specs.App.{UseData, is_smooth}
 use Rattle.aeth_group.specs.Numbering.{class_of, firsts_below}

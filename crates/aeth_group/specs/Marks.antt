@@ -8,11 +8,10 @@
 --   IsClosure      the least transitive table over another
 --   IsPair      two use cases that are one, or smooth
 -- This project's own.
-use Rattle.std.specs.Prelude.{◌≡◌, ◌<◌, ◌+◌, ◌*◌, ◌⊎◌, ◌&&◌, nat_lt, ℕ, Bool, true, not, List}
-use Rattle.std.specs.Prelude.{IsTrue, length, count_by, slice_set}
+use Rattle.std.proofs.Common.{◌≡◌, ◌<◌, ◌+◌, ◌*◌, ◌⊎◌, ◌&&◌, nat_lt, ℕ, Bool, true, not, List}
+use Rattle.std.proofs.Common.{IsTrue, length, count_by, slice_set}
 use Rattle.std.specs.Bool.{OnFalse, OnTrue}
-use Rattle.aeth_app.specs.App.{UseData, is_marked, is_smooth}
-use Rattle.aeth_app.specs.Limits.{max_uses}
+use Rattle.aeth_app.specs.{App.UseData, App.is_marked, App.is_smooth, Limits.max_uses}
 
 -- How many places a table has.
 abbrev pub places : ℕ

@@ -9,8 +9,8 @@
 --   is_member, are_together, is_kept      which connections are in a group, together, and kept
 --   units_with, units_of      the units
 -- This project's own.
-use Rattle.std.specs.Prelude.{ℕ, ◌≤◌, ◌<◌, ◌==◌, ◌&&◌, Bool, false, List, All, Option, Some, None}
-use Rattle.std.specs.Prelude.{length, map, filter, flat_map, slice_get}
+use Rattle.std.proofs.Common.{ℕ, ◌≤◌, ◌<◌, ◌==◌, ◌&&◌, Bool, false, List, All, Option, Some, None}
+use Rattle.std.proofs.Common.{length, map, filter, flat_map, slice_get}
 use Rattle.std.specs.List.{list_any, range_with_len}
 use Rattle.aeth_base.specs.declared.ids.Unit.{Unit as GroupUnit}
 use Rattle.aeth_app.specs.App.{AppData, has_connection, is_marked}

@@ -6,7 +6,7 @@
 --   firsts_below      how many numbers below a bound are the least of their classes
 --   class_of      the number of a number's class
 -- This project's own.
-use Rattle.std.specs.Prelude.{ℕ, ◌==◌, Bool, count_by}
+use Rattle.std.proofs.Common.{ℕ, ◌==◌, Bool, count_by}
 use Rattle.std.specs.List.{position_or_len, range_with_len}
 
 -- The least number below a count that belongs to a number; the count where none does.

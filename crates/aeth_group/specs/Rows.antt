@@ -2,10 +2,8 @@
 --
 --   uses_among, uses_of      the use cases of a group, ascending
 --   AreRows      a list for each group
-use Rattle.std.specs.Prelude.{◌≡◌, ◌==◌, ℕ, List, Some, filter, length, slice_get}
-use Rattle.std.specs.List.{range_with_len}
-use Rattle.std.specs.declared.vec.Vec.{Vec}
-use Rattle.std.specs.declared.alloc.Global.{Global}
+use Rattle.std.proofs.Common.{◌≡◌, ◌==◌, ℕ, List, Some, filter, length, slice_get}
+use Rattle.std.specs.{List.range_with_len, declared.vec.Vec.Vec, declared.alloc.Global.Global}
 use Rattle.aeth_group.specs.Members.{GroupsData, UseGroupData, group_in}
 
 -- Those of some use cases that are of a group.

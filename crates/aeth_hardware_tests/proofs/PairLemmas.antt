@@ -1,10 +1,9 @@
 -- Laws of two stages, the first of which takes a turn.
 use Rattle.std.proofs.Common.{zero, suc, ◌≡◌, ◌<◌, arith, List, [], ◌∷◌, get_or, length, subst}
-use Rattle.std.specs.List.{IsDistinct}
 use Rattle.std.proofs.lemmas.List.Elements.{All-cons, All-nil}
 use Rattle.std.proofs.lemmas.Option.{get_or_from_slice_get, slice_get_within}
-use Rattle.aeth_clocked.specs.Order.{AreChosen}
-use Rattle.aeth_clocked.specs.Resting.{AllOthers}
+use Rattle.std.specs.List.{IsDistinct}
+use Rattle.aeth_clocked.specs.{Order.AreChosen, Resting.AllOthers}
 use Rattle.aeth_router.specs.Stage.{StageState}
 
 -- The first of two is chosen.

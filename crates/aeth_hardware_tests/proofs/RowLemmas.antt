@@ -1,15 +1,12 @@
 -- Rows that the routers of a chip can have enter the tables of all its components.
-use Rattle.std.proofs.Common.{◌≡◌, ℕ, List, [], ◌∷◌, ◌++◌, get_or, length, map, ap, eqb-true}
-use Rattle.std.proofs.Common.{Some, refl, slice_get}
-use Rattle.std.specs.Prelude.{All}
-use Rattle.std.specs.List.{flat_map, range_with_len}
+use Rattle.std.proofs.Common.{◌≡◌, ℕ, List, [], ◌∷◌, ◌++◌, get_or, length, map, ap, eqb-true, Some}
+use Rattle.std.proofs.Common.{refl, slice_get, All}
 use Rattle.std.proofs.lemmas.List.Elements.{All-append, All-map, All-nil}
+use Rattle.std.specs.List.{flat_map, range_with_len}
 use Rattle.aeth_base.specs.declared.ids.RouterId.{RouterId}
-use Rattle.aeth_chip.specs.Chip.{ChipData}
-use Rattle.aeth_chip.specs.declared.node.Link.{Link}
-use Rattle.aeth_router.specs.Rows.{AreRowsFor, IsRowFor}
-use Rattle.aeth_router.specs.TableRouter.{new_table_router}
-use Rattle.aeth_router.specs.declared.router_row.RouterRow.{RouterRow}
+use Rattle.aeth_chip.specs.{Chip.ChipData, declared.node.Link.Link}
+use Rattle.aeth_router.specs.{Rows.AreRowsFor, Rows.IsRowFor, TableRouter.new_table_router}
+use Rattle.aeth_router.specs.{declared.router_row.RouterRow.RouterRow}
 use Rattle.aeth_components.specs.Entering.{TakesRows}
 use Rattle.aeth_components.specs.Frames.{frame_of}
 use Rattle.aeth_components.specs.Making.{link_stages, made_interface, made_router, made_stage}

@@ -1,10 +1,8 @@
 -- Laws of routes, as numbers and as lists of output ports.
-use Rattle.std.proofs.Common.{ℕ, zero, suc, ◌+◌, ◌*◌, ◌/◌, ◌%◌, ◌^◌, ◌<◌, ◌≤◌}
-use Rattle.std.proofs.Common.{◌≡◌, List, [], ◌∷◌, All, length, drop, sym, ap, ◌∙◌, lit<, arith}
+use Rattle.std.proofs.Common.{ℕ, zero, suc, ◌+◌, ◌*◌, ◌/◌, ◌%◌, ◌^◌, ◌<◌, ◌≤◌, ◌≡◌, List, [], ◌∷◌}
+use Rattle.std.proofs.Common.{All, length, drop, sym, ap, ◌∙◌, lit<, arith, pow-add, shr-shr}
 use Rattle.std.proofs.lemmas.List.Elements.{All-head, All-tail}
-use Rattle.std.proofs.lemmas.Nat.{pow-add, shr-shr}
-use Rattle.std.proofs.Math.Nat.{zero-div}
-use Rattle.std.proofs.Math.Pow.{pow_mono}
+use Rattle.std.proofs.Math.{Nat.zero-div, Pow.pow_mono}
 use Rattle.aeth_header.specs.Layout.{port_bits, route_ports, route_bits}
 use Rattle.aeth_header.specs.Route.{IsPort, route_of}
 

@@ -3,14 +3,12 @@
 -- A header that names route and queue, and brings credits back: after Æthereal (2005).
 -- Its layout is this project's own: from the lowest bit up, a route of seven output ports, the
 -- remote queue, the credits and the payload count.
-use Rattle.std.specs.Prelude.{ℕ, ◌+◌, ◌*◌, ◌/◌, ◌%◌, ◌^◌, ◌<◌, ◌≤◌, nat_le}
-use Rattle.std.specs.Prelude.{Result, Ok, Err, if◌then◌else◌}
+use Rattle.std.proofs.Common.{ℕ, ◌+◌, ◌*◌, ◌/◌, ◌%◌, ◌^◌, ◌<◌, ◌≤◌, nat_le, Result, Ok, Err}
+use Rattle.std.proofs.Common.{if◌then◌else◌}
 use Rattle.aeth_base.specs.Limits.{words_per_flit}
-use Rattle.aeth_header.specs.Layout.{route_bits, port_bits}
-use Rattle.aeth_header.specs.Layout.{queue_bits, credits_bits}
-use Rattle.aeth_header.specs.Layout.{queue_shift, credits_shift, count_shift}
-use Rattle.aeth_header.specs.declared.header.Header.{Header}
-use Rattle.aeth_header.specs.declared.fault.HeaderFault.{HeaderFault}
+use Rattle.aeth_header.specs.Layout.{route_bits, port_bits, queue_bits, credits_bits, queue_shift}
+use Rattle.aeth_header.specs.Layout.{credits_shift, count_shift}
+use Rattle.aeth_header.specs.declared.{header.Header.Header, fault.HeaderFault.HeaderFault}
 
 -- Each field fits its bits, and at most two words follow.
 pub record IsPackable (header : Header) : Type 0 where

@@ -1,6 +1,6 @@
 -- The layout of a header word: the fields, from the lowest bit up, and how many bits each takes.
 -- This project's own.
-use Rattle.std.specs.Prelude.{ℕ}
+use Rattle.std.proofs.Common.{ℕ}
 
 -- The longest route has so many output ports.
 abbrev pub route_ports : ℕ

@@ -1,6 +1,6 @@
 -- Routes: the output ports that a flit takes, as one number.
 -- Source routing by output ports: after Æthereal (2005). The number: this project's own.
-use Rattle.std.specs.Prelude.{ℕ, ◌+◌, ◌*◌, ◌^◌, ◌<◌, List, [], ◌∷◌}
+use Rattle.std.proofs.Common.{ℕ, ◌+◌, ◌*◌, ◌^◌, ◌<◌, List, [], ◌∷◌}
 use Rattle.aeth_header.specs.Layout.{port_bits}
 
 -- An output port fits its bits.

@@ -1,19 +1,14 @@
 -- What components have latched, and what is counted of it.
-use Rattle.std.proofs.Common.{◌≡◌, ◌≤◌, ◌<◌, ◌∙◌, ℕ, ◌+◌, refl, sym, ap, arith, inl, inr}
-use Rattle.std.proofs.Common.{Bool, true, false, cond, leb, List, [], ◌∷◌, Option, Some, None}
-use Rattle.std.proofs.Common.{length, map, slice_get}
-use Rattle.std.specs.Prelude.{◌==◌, Result, Ok, Err, option_map}
+use Rattle.std.proofs.Common.{◌≡◌, ◌≤◌, ◌<◌, ◌∙◌, ℕ, ◌+◌, refl, sym, ap, arith, inl, inr, Bool}
+use Rattle.std.proofs.Common.{true, false, cond, leb, List, [], ◌∷◌, Option, Some, None, length}
+use Rattle.std.proofs.Common.{map, slice_get, ◌==◌, Result, Ok, Err, option_map, leb-true}
+use Rattle.std.proofs.Common.{length-take}
+use Rattle.std.proofs.lemmas.{Bool.cases_Bool, Option.slice_get-map}
 use Rattle.std.specs.Option.{option_map_or}
-use Rattle.std.proofs.lemmas.Bool.{cases_Bool, leb-true}
-use Rattle.std.proofs.lemmas.List.{length-take}
-use Rattle.std.proofs.lemmas.Option.{slice_get-map}
-use Rattle.aeth_base.specs.Limits.{words_per_flit}
-use Rattle.aeth_base.specs.declared.ids.LinkId.{LinkId}
-use Rattle.aeth_clocked.specs.Wires.{flit_on}
-use Rattle.aeth_clocked.specs.declared.flit.Flit.{Flit}
+use Rattle.aeth_base.specs.{Limits.words_per_flit, declared.ids.LinkId.LinkId}
+use Rattle.aeth_clocked.specs.{Wires.flit_on, declared.flit.Flit.Flit}
 use Rattle.aeth_header.specs.Header.{fields_of, header_of}
-use Rattle.aeth_header.specs.declared.fault.HeaderFault.{HeaderFault}
-use Rattle.aeth_header.specs.declared.header.Header.{Header}
+use Rattle.aeth_header.specs.declared.{fault.HeaderFault.HeaderFault, header.Header.Header}
 use Rattle.aeth_ni.specs.Component.{arrival_by, arrival_of, last_of}
 use Rattle.aeth_ni.specs.Queue.{words_in}
 use Rattle.aeth_router.specs.Part.{absorb_of}
@@ -21,24 +16,18 @@ use Rattle.aeth_router.specs.declared.part.Part.{Part}
 use Rattle.aeth_router.specs.declared.part.Part.TheVariants.{Interface, Router, Stage, TableRouter}
 use Rattle.aeth_components.proofs.CountingLemmas.{counted-closed, counted-open}
 use Rattle.aeth_components.proofs.FrameLemmas.{from-map}
-use Rattle.aeth_components.specs.Counting.{brings, brought_at, counted}
-use Rattle.aeth_components.specs.Frames.{InterfaceFrame, frame_of}
-use Rattle.aeth_components.specs.Lanes.{is_open}
-use Rattle.aeth_components.specs.Queues.{brought_by}
-use Rattle.aeth_components.specs.Queues.{words_for as count_for}
-use Rattle.aeth_components.specs.declared.lane.ChannelEnd.{ChannelEnd}
-use Rattle.aeth_components.specs.declared.lane.Lane.{Lane}
+use Rattle.aeth_components.specs.{Counting.brings, Counting.brought_at, Counting.counted}
+use Rattle.aeth_components.specs.{Frames.InterfaceFrame, Frames.frame_of, Lanes.is_open}
+use Rattle.aeth_components.specs.{Queues.brought_by, Queues.words_for as count_for}
+use Rattle.aeth_components.specs.{declared.lane.ChannelEnd.ChannelEnd, declared.lane.Lane.Lane}
 use Rattle.aeth_server.specs.PrivateServer.{landed}
 use Rattle.aeth_refinement.proofs.Unique.{known-back}
-use Rattle.aeth_refinement.specs.Accepted.{IsAccepted}
-use Rattle.aeth_refinement.specs.Components.{brought, words_for}
-use Rattle.aeth_refinement.specs.Cycle.{Latched}
-use Rattle.aeth_refinement.specs.Fabric.{Fabric, IsGoing, server_at}
+use Rattle.aeth_refinement.specs.{Accepted.IsAccepted, Components.brought, Components.words_for}
+use Rattle.aeth_refinement.specs.{Cycle.Latched, Fabric.Fabric, Fabric.IsGoing, Fabric.server_at}
 use Rattle.aeth_invariant.proofs.OneQueue.{entries-absorb, entry_of-same, queue_of-absorb}
 use Rattle.aeth_invariant.proofs.Serving.{opened}
-use Rattle.aeth_invariant.specs.Framed.{HasSession, IsEndOf, IsFramed}
-use Rattle.aeth_invariant.specs.Served.{AreServed}
-use Rattle.aeth_invariant.specs.View.{net_of}
+use Rattle.aeth_invariant.specs.{Framed.HasSession, Framed.IsEndOf, Framed.IsFramed}
+use Rattle.aeth_invariant.specs.{Served.AreServed, View.net_of}
 
 -- A header has as many words as it says.
 fits-header : (word : ℕ) (header : Header) → header_of word ≡ Ok header

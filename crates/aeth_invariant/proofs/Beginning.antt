@@ -1,30 +1,22 @@
 -- Empty components with the tables of the first use case run.
 use Rattle.std.proofs.Common.{◌≡◌, ◌<◌, ◌∙◌, ℕ, suc, refl, sym, ap, subst, arith, inl, inr, false}
 use Rattle.std.proofs.Common.{List, Some, None, length, map}
-use Rattle.aeth_ni.specs.Queue.{QueueState}
-use Rattle.aeth_ni.specs.declared.queue.Route.{Route}
+use Rattle.aeth_ni.specs.{Queue.QueueState, declared.queue.Route.Route}
 use Rattle.aeth_components.proofs.PartLemmas.{frames-switched}
-use Rattle.aeth_components.specs.Changes.{switched}
-use Rattle.aeth_components.specs.Components.{ComponentsState, frames_of}
-use Rattle.aeth_components.specs.Frames.{Frame, IsWired, frame_of}
-use Rattle.aeth_components.specs.Switching.{SwitchesAlone, WritesAlone}
-use Rattle.aeth_components.specs.declared.event.Event.{Event}
+use Rattle.aeth_components.specs.{Changes.switched, Components.ComponentsState}
+use Rattle.aeth_components.specs.{Components.frames_of, Frames.Frame, Frames.IsWired}
+use Rattle.aeth_components.specs.{Frames.frame_of, Switching.SwitchesAlone, Switching.WritesAlone}
+use Rattle.aeth_components.specs.{declared.event.Event.Event}
 use Rattle.aeth_refinement.proofs.Whole.{begun}
-use Rattle.aeth_refinement.specs.Accepted.{IsAccepted}
-use Rattle.aeth_refinement.specs.Components.{Net, queue_of}
-use Rattle.aeth_refinement.specs.Fabric.{Fabric, server_at}
-use Rattle.aeth_refinement.specs.Runs.{Begins}
-use Rattle.aeth_refinement.specs.Switches.{HasEvent, Switched, freed_of}
-use Rattle.aeth_invariant.proofs.Holding.{latched-same}
-use Rattle.aeth_invariant.proofs.Kept.{hardware-switched}
-use Rattle.aeth_invariant.proofs.Running.{open-parts}
-use Rattle.aeth_invariant.proofs.Switching.{Becomes, IsFinished, IsFreed, IsHalted, IsSet, Stays}
-use Rattle.aeth_invariant.proofs.Switching.{becomes, switches}
-use Rattle.aeth_invariant.specs.Beginning.{AreEmpty, loaded_with}
-use Rattle.aeth_invariant.specs.Events.{AreEvents}
-use Rattle.aeth_invariant.specs.Framed.{IsFramed}
-use Rattle.aeth_invariant.specs.Running.{Runs}
-use Rattle.aeth_invariant.specs.View.{net_of}
+use Rattle.aeth_refinement.specs.{Accepted.IsAccepted, Components.Net, Components.queue_of}
+use Rattle.aeth_refinement.specs.{Fabric.Fabric, Fabric.server_at, Runs.Begins, Switches.HasEvent}
+use Rattle.aeth_refinement.specs.{Switches.Switched, Switches.freed_of}
+use Rattle.aeth_invariant.proofs.{Holding.latched-same, Kept.hardware-switched, Running.open-parts}
+use Rattle.aeth_invariant.proofs.{Switching.Becomes, Switching.IsFinished, Switching.IsFreed}
+use Rattle.aeth_invariant.proofs.{Switching.IsHalted, Switching.IsSet, Switching.Stays}
+use Rattle.aeth_invariant.proofs.{Switching.becomes, Switching.switches}
+use Rattle.aeth_invariant.specs.{Beginning.AreEmpty, Beginning.loaded_with, Events.AreEvents}
+use Rattle.aeth_invariant.specs.{Framed.IsFramed, Running.Runs, View.net_of}
 
 module _ (fabric : Fabric) (ok : IsAccepted fabric) (channel : ℕ → ℕ) (events : List Event)
     (all : ComponentsState) (empty : AreEmpty fabric all) (are : AreEvents fabric 0 events)

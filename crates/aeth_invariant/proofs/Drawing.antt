@@ -1,12 +1,9 @@
 -- Taking words out of a queue, one after the other.
 use Rattle.std.proofs.Common.{◌≡◌, ◌≤◌, ◌∙◌, ℕ, zero, suc, ◌+◌, ◌-◌, min, refl, sym, ap, arith, inl}
-use Rattle.std.proofs.Common.{inr}
-use Rattle.std.proofs.Common.{Bool, true, false, cond, length, drop}
-use Rattle.std.specs.Prelude.{◌==◌}
+use Rattle.std.proofs.Common.{inr, Bool, true, false, cond, length, drop, ◌==◌}
 use Rattle.std.proofs.lemmas.Bool.{cases_lt}
 use Rattle.aeth_ni.specs.Queue.{QueueState, capped, word_taken}
-use Rattle.aeth_components.proofs.QueueLemmas.{drawn-more}
-use Rattle.aeth_components.specs.Queues.{drawn}
+use Rattle.aeth_components.{proofs.QueueLemmas.drawn-more, specs.Queues.drawn}
 use Rattle.aeth_refinement.specs.Components.{words_taken}
 
 -- The first take may come last.

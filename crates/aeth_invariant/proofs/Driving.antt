@@ -1,21 +1,18 @@
 -- What the components drive on each wire is what those of the law drive.
-use Rattle.std.proofs.Common.{◌≡◌, ◌≤◌, ◌<◌, ◌∙◌, ℕ, zero, suc, ◌%◌, refl, sym, ap, arith, inl, inr, true}
-use Rattle.std.proofs.Common.{List, [], ◌∷◌, Option, Some, None, get_or, length, map, slice_get}
-use Rattle.std.specs.Prelude.{◌==◌, option_and_then, option_map, position, unwrap_or}
+use Rattle.std.proofs.Common.{◌≡◌, ◌≤◌, ◌<◌, ◌∙◌, ℕ, zero, suc, ◌%◌, refl, sym, ap, arith, inl, inr}
+use Rattle.std.proofs.Common.{true, List, [], ◌∷◌, Option, Some, None, get_or, length, map}
+use Rattle.std.proofs.Common.{slice_get, ◌==◌, option_and_then, option_map, position, unwrap_or}
+use Rattle.std.proofs.Common.{eq-eqb}
+use Rattle.std.proofs.lemmas.{Bool.cases_lt, List.FromFn.get_or-map-range_with_len}
+use Rattle.std.proofs.lemmas.{List.FromFn.length-map-range_with_len, List.Quantifiers.position-Some}
+use Rattle.std.proofs.lemmas.{Map.Keys.any_passes_from_place, Option.slice_get-get_or}
+use Rattle.std.proofs.lemmas.{Option.slice_get_past}
 use Rattle.std.specs.List.{slice_index_or}
-use Rattle.std.proofs.lemmas.Bool.{cases_lt, eq-eqb}
-use Rattle.std.proofs.lemmas.List.FromFn.{get_or-map-range_with_len, length-map-range_with_len}
-use Rattle.std.proofs.lemmas.List.Quantifiers.{position-Some}
-use Rattle.std.proofs.lemmas.Map.Keys.{any_passes_from_place}
-use Rattle.std.proofs.lemmas.Option.{slice_get-get_or, slice_get_past}
 use Rattle.aeth_base.specs.declared.ids.LinkId.{LinkId}
-use Rattle.aeth_clocked.specs.Driven.{driven}
+use Rattle.aeth_clocked.specs.{Driven.driven, Wires.flit_on, declared.flit.Flit.Flit}
 use Rattle.aeth_clocked.proofs.DrivenLemmas.{driven-at}
-use Rattle.aeth_clocked.specs.Wires.{flit_on}
-use Rattle.aeth_clocked.specs.declared.flit.Flit.{Flit}
-use Rattle.aeth_ni.specs.Component.{emitted_by as ni_emitted, queue_at_cycle}
-use Rattle.aeth_ni.specs.Interface.{queue_at}
-use Rattle.aeth_ni.specs.Queue.{QueueState}
+use Rattle.aeth_ni.specs.{Component.emitted_by as ni_emitted, Component.queue_at_cycle}
+use Rattle.aeth_ni.specs.{Interface.queue_at, Queue.QueueState}
 use Rattle.aeth_router.specs.Part.{emit_of, outputs_of}
 use Rattle.aeth_router.specs.Ports.{flits_for, hopped, sole}
 use Rattle.aeth_router.specs.Router.{is_among}
@@ -23,16 +20,13 @@ use Rattle.aeth_router.specs.TableRouter.{TableRouterState, entry_at, routed, se
 use Rattle.aeth_router.specs.declared.part.Part.{Part}
 use Rattle.aeth_router.specs.declared.part.Part.TheVariants.{Interface, Router, Stage, TableRouter}
 use Rattle.aeth_components.proofs.FrameLemmas.{AreDisjoint-parts, from-map}
-use Rattle.aeth_components.specs.Components.{wires_driven}
-use Rattle.aeth_components.specs.Frames.{InterfaceFrame, IsWired, RouterFrame, StageFrame}
-use Rattle.aeth_components.specs.Frames.{frame_of}
-use Rattle.aeth_components.specs.Switching.{entry_in}
-use Rattle.aeth_components.specs.View.{queue_in}
+use Rattle.aeth_components.specs.{Components.wires_driven, Frames.InterfaceFrame, Frames.IsWired}
+use Rattle.aeth_components.specs.{Frames.RouterFrame, Frames.StageFrame, Frames.frame_of}
+use Rattle.aeth_components.specs.{Switching.entry_in, View.queue_in}
 use Rattle.aeth_refinement.proofs.Tables.{forwards, forwards-none}
 use Rattle.aeth_refinement.specs.Accepted.{IsAccepted}
 use Rattle.aeth_refinement.specs.Carried.{Exact}
-use Rattle.aeth_refinement.specs.Components.{Net, emit, emitted_by}
-use Rattle.aeth_refinement.specs.Components.{driven as net_driven}
+use Rattle.aeth_refinement.specs.Components.{Net, emit, emitted_by, driven as net_driven}
 use Rattle.aeth_refinement.specs.Fabric.{AtInterface, AtRouter, AtStage, Fabric, WireEnd}
 use Rattle.aeth_refinement.specs.Tables.{AreEntries, passed_on}
 use Rattle.aeth_invariant.specs.Framed.{IsFramed, IsFrom, IsFromRouter, IsFromStage}

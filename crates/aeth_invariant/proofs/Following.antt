@@ -1,58 +1,43 @@
 -- One cycle of components that follow private servers is one of the law, and they follow them
 -- still.
 use Rattle.std.proofs.Common.{◌≡◌, ◌≤◌, ◌<◌, ◌∙◌, ℕ, suc, ◌+◌, ◌-◌, ◌%◌, refl, sym, ap, subst}
-use Rattle.std.proofs.Common.{arith}
-use Rattle.std.proofs.Common.{List, Option, length, map}
+use Rattle.std.proofs.Common.{arith, List, Option, length, map}
 use Rattle.std.specs.List.{range_with_len}
-use Rattle.aeth_clocked.specs.Wires.{flit_on}
-use Rattle.aeth_clocked.specs.declared.flit.Flit.{Flit}
-use Rattle.aeth_ni.specs.Component.{arrival_of}
-use Rattle.aeth_ni.specs.Queue.{QueueState}
-use Rattle.aeth_router.specs.Part.{absorb_of}
-use Rattle.aeth_router.specs.declared.part.Part.{Part}
+use Rattle.aeth_clocked.specs.{Wires.flit_on, declared.flit.Flit.Flit}
+use Rattle.aeth_ni.specs.{Component.arrival_of, Queue.QueueState}
+use Rattle.aeth_router.specs.{Part.absorb_of, declared.part.Part.Part}
 use Rattle.aeth_components.proofs.FrameLemmas.{frames-after, length-wires_driven}
 use Rattle.aeth_components.proofs.PartLemmas.{frames-switched}
 use Rattle.aeth_components.proofs.TurnLemmas.{frames-pulled, frames-refilled, frames-turns}
-use Rattle.aeth_components.specs.Changes.{switched}
-use Rattle.aeth_components.specs.Components.{ComponentsState, driven_from, frames_of, moment_of}
-use Rattle.aeth_components.specs.Components.{switched_from}
-use Rattle.aeth_components.specs.Components.{Cycle as ComponentsCycle}
-use Rattle.aeth_components.specs.Counting.{counted}
-use Rattle.aeth_components.specs.Frames.{Frame, IsWired, frame_of}
-use Rattle.aeth_components.specs.Laws.{RefillsAlone, TakesAlone}
-use Rattle.aeth_components.specs.Phases.{Moment, in_turn, pulled, refilled}
-use Rattle.aeth_components.specs.declared.event.Event.{Event}
+use Rattle.aeth_components.specs.{Changes.switched, Components.ComponentsState}
+use Rattle.aeth_components.specs.{Components.driven_from, Components.frames_of}
+use Rattle.aeth_components.specs.{Components.moment_of, Components.switched_from}
+use Rattle.aeth_components.specs.{Components.Cycle as ComponentsCycle, Counting.counted}
+use Rattle.aeth_components.specs.{Frames.Frame, Frames.IsWired, Frames.frame_of, Laws.RefillsAlone}
+use Rattle.aeth_components.specs.{Laws.TakesAlone, Phases.Moment, Phases.in_turn, Phases.pulled}
+use Rattle.aeth_components.specs.{Phases.refilled, declared.event.Event.Event, Switching.entry_of}
+use Rattle.aeth_components.specs.{View.queue_of as queue_in}
 use Rattle.aeth_server.proofs.PrivateServerLemmas.{sent-more}
 use Rattle.aeth_server.specs.PrivateServer.{arrived, landed, taken}
-use Rattle.aeth_refinement.proofs.Landing.{lands}
-use Rattle.aeth_refinement.proofs.Owning.{landed-most, owns-going, received-length}
-use Rattle.aeth_refinement.proofs.Queues.{sent_from-kept}
-use Rattle.aeth_refinement.proofs.Unique.{paths-of}
-use Rattle.aeth_refinement.proofs.Whole.{IsStep, step}
-use Rattle.aeth_refinement.proofs.Words.{length-words_from}
-use Rattle.aeth_refinement.specs.Accepted.{IsAccepted}
-use Rattle.aeth_refinement.specs.Carried.{Exact}
-use Rattle.aeth_components.specs.Switching.{entry_of}
-use Rattle.aeth_components.specs.View.{queue_of as queue_in}
-use Rattle.aeth_refinement.specs.Components.{Net, after, queue_of, words_for}
-use Rattle.aeth_refinement.specs.Components.{driven as net_driven}
-use Rattle.aeth_refinement.specs.Cycle.{Cycle, Refilled, Took}
-use Rattle.aeth_refinement.specs.Fabric.{Fabric, IsGoing, Owns, flow_at, server_at}
-use Rattle.aeth_refinement.specs.Standing.{Stands}
-use Rattle.aeth_refinement.specs.Switches.{HasEvent, Switched, finish_of}
-use Rattle.aeth_invariant.proofs.Arriving.{counts-served, latches}
-use Rattle.aeth_invariant.proofs.Driving.{wires-driven}
-use Rattle.aeth_invariant.proofs.Holding.{latched-absorb, latched-same}
-use Rattle.aeth_invariant.proofs.Kept.{hardware-switched, hardware_in, hardware_in-changed}
-use Rattle.aeth_invariant.proofs.Kept.{kept-refilling}
-use Rattle.aeth_invariant.proofs.OneQueue.{entries-after, entry_of-same, queue_of-after}
-use Rattle.aeth_invariant.proofs.Refilling.{refills, refills-served}
-use Rattle.aeth_invariant.proofs.Routed.{routed-same, tables-kept, tables-ready}
-use Rattle.aeth_invariant.proofs.Taking.{took, took-served}
-use Rattle.aeth_invariant.specs.Following.{Follows}
-use Rattle.aeth_invariant.specs.Framed.{IsFramed}
-use Rattle.aeth_invariant.specs.Served.{AreServed, handed_after}
-use Rattle.aeth_invariant.specs.View.{HaveLatched, net_of}
+use Rattle.aeth_refinement.proofs.{Landing.lands, Owning.landed-most, Owning.owns-going}
+use Rattle.aeth_refinement.proofs.{Owning.received-length, Queues.sent_from-kept, Unique.paths-of}
+use Rattle.aeth_refinement.proofs.{Whole.IsStep, Whole.step, Words.length-words_from}
+use Rattle.aeth_refinement.specs.{Accepted.IsAccepted, Carried.Exact, Components.Net}
+use Rattle.aeth_refinement.specs.{Components.after, Components.queue_of, Components.words_for}
+use Rattle.aeth_refinement.specs.{Components.driven as net_driven, Cycle.Cycle, Cycle.Refilled}
+use Rattle.aeth_refinement.specs.{Cycle.Took, Fabric.Fabric, Fabric.IsGoing, Fabric.Owns}
+use Rattle.aeth_refinement.specs.{Fabric.flow_at, Fabric.server_at, Standing.Stands}
+use Rattle.aeth_refinement.specs.{Switches.HasEvent, Switches.Switched, Switches.finish_of}
+use Rattle.aeth_invariant.proofs.{Arriving.counts-served, Arriving.latches, Driving.wires-driven}
+use Rattle.aeth_invariant.proofs.{Holding.latched-absorb, Holding.latched-same}
+use Rattle.aeth_invariant.proofs.{Kept.hardware-switched, Kept.hardware_in}
+use Rattle.aeth_invariant.proofs.{Kept.hardware_in-changed, Kept.kept-refilling}
+use Rattle.aeth_invariant.proofs.{OneQueue.entries-after, OneQueue.entry_of-same}
+use Rattle.aeth_invariant.proofs.{OneQueue.queue_of-after, Refilling.refills}
+use Rattle.aeth_invariant.proofs.{Refilling.refills-served, Routed.routed-same, Routed.tables-kept}
+use Rattle.aeth_invariant.proofs.{Routed.tables-ready, Taking.took, Taking.took-served}
+use Rattle.aeth_invariant.specs.{Following.Follows, Framed.IsFramed, Served.AreServed}
+use Rattle.aeth_invariant.specs.{Served.handed_after, View.HaveLatched, View.net_of}
 
 module _ (fabric : Fabric) (ok : IsAccepted fabric) (channel : ℕ → ℕ) (events : List Event) (t : ℕ)
     (handed : ℕ → ℕ) (old new : ComponentsState)

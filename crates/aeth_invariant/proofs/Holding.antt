@@ -1,9 +1,7 @@
 -- What routers, of both kinds, and stages hold.
-use Rattle.std.proofs.Common.{◌≡◌, ◌∙◌, ℕ, sym, ap, List, Option, Some, map, slice_get}
-use Rattle.std.specs.Prelude.{option_map}
+use Rattle.std.proofs.Common.{◌≡◌, ◌∙◌, ℕ, sym, ap, List, Option, Some, map, slice_get, option_map}
 use Rattle.std.proofs.lemmas.Option.{slice_get-map}
-use Rattle.aeth_clocked.specs.Wires.{flit_on}
-use Rattle.aeth_clocked.specs.declared.flit.Flit.{Flit}
+use Rattle.aeth_clocked.specs.{Wires.flit_on, declared.flit.Flit.Flit}
 use Rattle.aeth_router.specs.Part.{absorb_of}
 use Rattle.aeth_router.specs.Router.{RouterState, absorbed}
 use Rattle.aeth_router.specs.Stage.{StageState, stage_absorb}
@@ -11,8 +9,7 @@ use Rattle.aeth_router.specs.TableRouter.{TableRouterState, table_absorb}
 use Rattle.aeth_router.specs.declared.part.Part.{Part}
 use Rattle.aeth_router.specs.declared.part.Part.TheVariants.{Interface, Router, Stage, TableRouter}
 use Rattle.aeth_components.proofs.FrameLemmas.{from-map}
-use Rattle.aeth_invariant.proofs.Kept.{hardware_in}
-use Rattle.aeth_invariant.specs.View.{HaveLatched}
+use Rattle.aeth_invariant.{proofs.Kept.hardware_in, specs.View.HaveLatched}
 
 -- A router that has latched wires holds what they have where it receives, and so does a stage.
 router-latched : (part : Part) (wires : List (Option Flit)) (router : RouterState)

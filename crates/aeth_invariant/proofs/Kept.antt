@@ -1,16 +1,12 @@
 -- What of components a change of queues leaves.
-use Rattle.std.proofs.Common.{◌≡◌, ◌∙◌, ℕ, refl, map}
-use Rattle.std.proofs.Common.{List, [], ◌∷◌, Option, Some, None, length}
+use Rattle.std.proofs.Common.{◌≡◌, ◌∙◌, ℕ, refl, map, List, [], ◌∷◌, Option, Some, None, length}
 use Rattle.std.specs.List.{range_with_len}
-use Rattle.aeth_ni.specs.Interface.{InterfaceState, changed}
-use Rattle.aeth_ni.specs.Queue.{QueueState}
+use Rattle.aeth_ni.specs.{Interface.InterfaceState, Interface.changed, Queue.QueueState}
 use Rattle.aeth_router.specs.declared.part.Part.{Part}
 use Rattle.aeth_router.specs.declared.part.Part.TheVariants.{Interface, Router, Stage, TableRouter}
-use Rattle.aeth_components.specs.declared.event.Event.{Event}
-use Rattle.aeth_components.specs.Changes.{event_done, happened, on_interface, switched}
-use Rattle.aeth_components.specs.Events.{event_part}
-use Rattle.aeth_components.specs.Phases.{Moment, in_turn}
-use Rattle.aeth_components.specs.Phases.{pulled, refilled}
+use Rattle.aeth_components.specs.{declared.event.Event.Event, Changes.event_done, Changes.happened}
+use Rattle.aeth_components.specs.{Changes.on_interface, Changes.switched, Events.event_part}
+use Rattle.aeth_components.specs.{Phases.Moment, Phases.in_turn, Phases.pulled, Phases.refilled}
 use Rattle.aeth_components.proofs.PartLemmas.{views-with_part}
 use Rattle.aeth_components.proofs.TurnLemmas.{views-pulled, views-refilled, views-turns}
 

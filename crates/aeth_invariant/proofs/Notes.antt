@@ -1,30 +1,21 @@
 -- The landings that a cycle notes.
-use Rattle.std.proofs.Common.{◌≡◌, ◌<◌, ◌∙◌, ℕ, ◌+◌, sym, ap, arith}
-use Rattle.std.proofs.Common.{List, Some, length, slice_get}
-use Rattle.std.specs.Prelude.{option_map}
+use Rattle.std.proofs.Common.{◌≡◌, ◌<◌, ◌∙◌, ℕ, ◌+◌, sym, ap, arith, List, Some, length, slice_get}
+use Rattle.std.proofs.Common.{option_map}
 use Rattle.std.proofs.lemmas.Option.{same_Some, slice_get-map}
-use Rattle.aeth_components.proofs.CountingLemmas.{counted-open}
-use Rattle.aeth_components.specs.Changes.{switched}
-use Rattle.aeth_components.specs.Components.{ComponentsState, latched_of, moment_of}
-use Rattle.aeth_components.specs.Components.{Cycle as ComponentsCycle}
-use Rattle.aeth_components.specs.Counting.{brings, counted}
-use Rattle.aeth_components.specs.Laws.{NotesAlone, RefillsAlone, TakesAlone}
-use Rattle.aeth_components.specs.Phases.{Moment}
-use Rattle.aeth_components.specs.declared.event.Event.{Event}
-use Rattle.aeth_components.specs.declared.lane.Lane.{Lane}
+use Rattle.aeth_components.{proofs.CountingLemmas.counted-open, specs.Changes.switched}
+use Rattle.aeth_components.{specs.Components.ComponentsState, specs.Components.latched_of}
+use Rattle.aeth_components.{specs.Components.moment_of, specs.Components.Cycle as ComponentsCycle}
+use Rattle.aeth_components.{specs.Counting.brings, specs.Counting.counted, specs.Laws.NotesAlone}
+use Rattle.aeth_components.{specs.Laws.RefillsAlone, specs.Laws.TakesAlone, specs.Phases.Moment}
+use Rattle.aeth_components.{specs.declared.event.Event.Event, specs.declared.lane.Lane.Lane}
 use Rattle.aeth_server.specs.PrivateServer.{landed}
-use Rattle.aeth_refinement.specs.Accepted.{IsAccepted}
-use Rattle.aeth_refinement.specs.Fabric.{Fabric, IsGoing, server_at}
-use Rattle.aeth_refinement.specs.Switches.{Switched}
-use Rattle.aeth_invariant.proofs.Following.{drained-served, follow}
-use Rattle.aeth_invariant.proofs.Noting.{notes-on}
-use Rattle.aeth_invariant.proofs.Running.{cycles-drained, lane-before}
-use Rattle.aeth_invariant.proofs.Serving.{opened}
-use Rattle.aeth_invariant.specs.Following.{Follows}
-use Rattle.aeth_invariant.specs.Places.{ArePlaced, HavePlaces}
-use Rattle.aeth_invariant.specs.Served.{AreServed, handed_after}
-use Rattle.aeth_invariant.specs.Telling.{NotesLandings}
-use Rattle.aeth_invariant.specs.View.{net_of}
+use Rattle.aeth_refinement.specs.{Accepted.IsAccepted, Fabric.Fabric, Fabric.IsGoing}
+use Rattle.aeth_refinement.specs.{Fabric.server_at, Switches.Switched}
+use Rattle.aeth_invariant.proofs.{Following.drained-served, Following.follow, Noting.notes-on}
+use Rattle.aeth_invariant.proofs.{Running.cycles-drained, Running.lane-before, Serving.opened}
+use Rattle.aeth_invariant.specs.{Following.Follows, Places.ArePlaced, Places.HavePlaces}
+use Rattle.aeth_invariant.specs.{Served.AreServed, Served.handed_after, Telling.NotesLandings}
+use Rattle.aeth_invariant.specs.{View.net_of}
 
 module _ (fabric : Fabric) (ok : IsAccepted fabric) (channel : ℕ → ℕ) (events : List Event) (t : ℕ)
     (handed : ℕ → ℕ) (old new : ComponentsState)

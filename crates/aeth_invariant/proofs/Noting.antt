@@ -3,18 +3,14 @@ use Rattle.std.proofs.Common.{◌≡◌, ◌≤◌, ◌<◌, ◌∙◌, ℕ, ◌
 use Rattle.std.proofs.Common.{List, Some, fold, length, slice_get}
 use Rattle.std.proofs.lemmas.Bool.{cases_lt}
 use Rattle.aeth_router.specs.declared.part.Part.{Part}
-use Rattle.aeth_components.specs.Counting.{brings, noted}
-use Rattle.aeth_components.specs.Laws.{NotesAlone}
-use Rattle.aeth_components.specs.declared.lane.Lane.{Lane}
-use Rattle.aeth_server.proofs.PrivateServerLemmas.{sent-more}
-use Rattle.aeth_server.specs.PrivateServer.{landed}
-use Rattle.aeth_refinement.proofs.Owning.{landed-most}
-use Rattle.aeth_refinement.proofs.Unique.{paths-of}
+use Rattle.aeth_components.specs.{Counting.brings, Counting.noted, Laws.NotesAlone}
+use Rattle.aeth_components.specs.{declared.lane.Lane.Lane}
+use Rattle.aeth_server.{proofs.PrivateServerLemmas.sent-more, specs.PrivateServer.landed}
+use Rattle.aeth_refinement.proofs.{Owning.landed-most, Unique.paths-of}
 use Rattle.aeth_refinement.specs.Accepted.{IsAccepted}
 use Rattle.aeth_refinement.specs.Fabric.{Fabric, IsGoing, server_at}
 use Rattle.aeth_invariant.proofs.Serving.{open-of, opened}
-use Rattle.aeth_invariant.specs.Places.{ArePlaced, HavePlaces}
-use Rattle.aeth_invariant.specs.Served.{AreServed}
+use Rattle.aeth_invariant.specs.{Places.ArePlaced, Places.HavePlaces, Served.AreServed}
 
 module _ (fabric : Fabric) (ok : IsAccepted fabric) (channel : ℕ → ℕ) (words : List ℕ) (t takes : ℕ)
     (more : ℕ → ℕ) (lanes : List Lane) (parts : List Part) (landings : List ℕ) (first : ℕ → ℕ)

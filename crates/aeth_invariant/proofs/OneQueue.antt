@@ -1,16 +1,12 @@
 -- One queue and one entry of all components, once these have driven or latched.
 use Rattle.std.proofs.Common.{◌≡◌, ◌<◌, ◌∙◌, ℕ, ◌%◌, refl, sym, ap, subst, arith, inl, inr, Bool}
-use Rattle.std.proofs.Common.{cond}
-use Rattle.std.proofs.Common.{List, Option, Some, None, length, map, slice_get, ◌⊎◌}
-use Rattle.std.specs.Prelude.{◌==◌, option_map}
+use Rattle.std.proofs.Common.{cond, List, Option, Some, None, length, map, slice_get, ◌⊎◌, ◌==◌}
+use Rattle.std.proofs.Common.{option_map, eq-eqb, ne_eqb}
+use Rattle.std.proofs.lemmas.{Bool.cases_eq, Bool.cases_lt, List.set_past, List.get_or_past}
+use Rattle.std.proofs.lemmas.{Option.slice_get-map}
 use Rattle.std.specs.List.{slice_index_or}
-use Rattle.std.proofs.lemmas.Bool.{cases_eq, cases_lt, eq-eqb, ne_eqb}
-use Rattle.std.proofs.lemmas.List.{set_past, get_or_past}
-use Rattle.std.proofs.lemmas.Option.{slice_get-map}
-use Rattle.aeth_base.specs.declared.ids.LinkId.{LinkId}
-use Rattle.aeth_base.specs.declared.ids.NiId.{NiId}
-use Rattle.aeth_clocked.specs.Wires.{flit_on}
-use Rattle.aeth_clocked.specs.declared.flit.Flit.{Flit}
+use Rattle.aeth_base.specs.declared.ids.{LinkId.LinkId, NiId.NiId}
+use Rattle.aeth_clocked.specs.{Wires.flit_on, declared.flit.Flit.Flit}
 use Rattle.aeth_ni.proofs.InterfaceLemmas.{queue_at-with_queue_other, queue_at-with_queue_same}
 use Rattle.aeth_ni.specs.Component.{Arrival, arrival_of, flit_sent_by, landed_at, queue_at_cycle}
 use Rattle.aeth_ni.specs.Interface.{InterfaceState, queue_at, with_queue}

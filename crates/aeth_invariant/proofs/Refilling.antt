@@ -1,42 +1,33 @@
 -- Refilling, channel by channel, is that of the law.
 use Rattle.std.proofs.Common.{◌≡◌, ◌≤◌, ◌<◌, ◌∙◌, ℕ, ◌+◌, ◌-◌, min, refl, sym, ap, arith, inl, inr}
-use Rattle.std.proofs.Common.{Bool, true, false, cond, ltb, leb, ◌&&◌, List, ◌++◌, Option}
-use Rattle.std.proofs.Common.{Some, get_or, length, map, take, drop, slice_get}
-use Rattle.std.specs.List.{range_with_len}
-use Rattle.std.proofs.lemmas.Bool.{and_from, and_parts, both_ways, cases_Bool, cases_lt, le-leb}
-use Rattle.std.proofs.lemmas.Bool.{leb-true, lt-ltb, ltb-true}
-use Rattle.std.proofs.lemmas.List.{length-take, take_min}
+use Rattle.std.proofs.Common.{Bool, true, false, cond, ltb, leb, ◌&&◌, List, ◌++◌, Option, Some}
+use Rattle.std.proofs.Common.{get_or, length, map, take, drop, slice_get, le-leb, leb-true, lt-ltb}
+use Rattle.std.proofs.Common.{ltb-true, length-take}
+use Rattle.std.proofs.lemmas.Bool.{and_from, and_parts, both_ways, cases_Bool, cases_lt}
+use Rattle.std.proofs.lemmas.List.{take_min}
 use Rattle.std.proofs.lemmas.Option.{same_Some, slice_get-get_or, slice_get_within}
+use Rattle.std.specs.List.{range_with_len}
 use Rattle.aeth_clocked.specs.declared.flit.Flit.{Flit}
-use Rattle.aeth_ni.specs.Limits.{waiting_words}
-use Rattle.aeth_ni.specs.Queue.{QueueState}
+use Rattle.aeth_ni.specs.{Limits.waiting_words, Queue.QueueState}
 use Rattle.aeth_router.specs.declared.part.Part.{Part}
-use Rattle.aeth_components.specs.Alone.{Done}
-use Rattle.aeth_components.specs.Frames.{frame_of}
-use Rattle.aeth_components.specs.Lanes.{is_open}
-use Rattle.aeth_components.specs.Laws.{RefillsAlone}
-use Rattle.aeth_components.specs.Phases.{Moment, in_turn, left_of, refilled}
-use Rattle.aeth_components.specs.Queues.{filled, fits}
-use Rattle.aeth_components.specs.View.{queue_of as queue_in}
-use Rattle.aeth_components.specs.declared.lane.Lane.{Lane}
+use Rattle.aeth_components.specs.{Alone.Done, Frames.frame_of, Lanes.is_open, Laws.RefillsAlone}
+use Rattle.aeth_components.specs.{Phases.Moment, Phases.in_turn, Phases.left_of, Phases.refilled}
+use Rattle.aeth_components.specs.{Queues.filled, Queues.fits, View.queue_of as queue_in}
+use Rattle.aeth_components.specs.{declared.lane.Lane.Lane}
 use Rattle.aeth_components.proofs.SkipLemmas.{length-turns}
 use Rattle.aeth_server.specs.PrivateServer.{arrived}
-use Rattle.aeth_refinement.proofs.Counts.{arrived-most}
-use Rattle.aeth_refinement.proofs.Words.{drop-words_from, length-words_from, same_words}
-use Rattle.aeth_refinement.proofs.Words.{take-words_from}
-use Rattle.aeth_refinement.specs.Accepted.{IsAccepted}
-use Rattle.aeth_refinement.specs.Carried.{words_from}
-use Rattle.aeth_refinement.specs.Components.{Net, queue_of}
-use Rattle.aeth_refinement.specs.Cycle.{Refilled, handing}
-use Rattle.aeth_refinement.specs.Fabric.{Fabric, IsGoing, IsSameQueue, flow_at, server_at}
+use Rattle.aeth_refinement.proofs.{Counts.arrived-most, Words.drop-words_from}
+use Rattle.aeth_refinement.proofs.{Words.length-words_from, Words.same_words, Words.take-words_from}
+use Rattle.aeth_refinement.specs.{Accepted.IsAccepted, Carried.words_from, Components.Net}
+use Rattle.aeth_refinement.specs.{Components.queue_of, Cycle.Refilled, Cycle.handing, Fabric.Fabric}
+use Rattle.aeth_refinement.specs.{Fabric.IsGoing, Fabric.IsSameQueue, Fabric.flow_at}
+use Rattle.aeth_refinement.specs.{Fabric.server_at}
 use Rattle.aeth_invariant.proofs.Kept.{entries_in, entries_in-changed, kept-refilling}
 use Rattle.aeth_invariant.proofs.OneQueue.{entry_of-same}
 use Rattle.aeth_invariant.proofs.Serving.{IsNone, alone-none, alone-sender, at-end, found-or-none}
-use Rattle.aeth_invariant.proofs.Serving.{has-queue}
-use Rattle.aeth_invariant.proofs.Serving.{opened, user-of, uses}
-use Rattle.aeth_invariant.specs.Framed.{IsFramed}
-use Rattle.aeth_invariant.specs.Served.{AreServed, IsServed, handed_after}
-use Rattle.aeth_invariant.specs.View.{net_of}
+use Rattle.aeth_invariant.proofs.Serving.{has-queue, opened, user-of, uses}
+use Rattle.aeth_invariant.specs.{Framed.IsFramed, Served.AreServed, Served.IsServed}
+use Rattle.aeth_invariant.specs.{Served.handed_after, View.net_of}
 
 -- Values that stand among words.
 pub within-values : (words values : List ℕ) (first h k : ℕ)

@@ -1,11 +1,9 @@
 -- Tables of routers: what leaves them, and what a change of tables leaves.
-use Rattle.std.proofs.Common.{◌≡◌, ◌∙◌, ℕ, List, [], None, Option, Some, refl, sym, ap, map, slice_get}
-use Rattle.std.specs.Prelude.{◌==◌, option_map, position}
+use Rattle.std.proofs.Common.{◌≡◌, ◌∙◌, ℕ, List, [], None, Option, Some, refl, sym, ap, map}
+use Rattle.std.proofs.Common.{slice_get, ◌==◌, option_map, position}
 use Rattle.std.proofs.lemmas.Option.{slice_get-map}
-use Rattle.aeth_clocked.specs.Wires.{flit_on}
-use Rattle.aeth_clocked.specs.declared.flit.Flit.{Flit}
-use Rattle.aeth_ni.specs.Interface.{InterfaceState, changed}
-use Rattle.aeth_ni.specs.Queue.{QueueState}
+use Rattle.aeth_clocked.specs.{Wires.flit_on, declared.flit.Flit.Flit}
+use Rattle.aeth_ni.specs.{Interface.InterfaceState, Interface.changed, Queue.QueueState}
 use Rattle.aeth_router.specs.Part.{absorb_of, after_of}
 use Rattle.aeth_router.specs.Router.{RouterState}
 use Rattle.aeth_router.specs.Stage.{StageState}
@@ -13,17 +11,17 @@ use Rattle.aeth_router.specs.TableRouter.{TableRouterState}
 use Rattle.aeth_router.specs.declared.part.Part.{Part}
 use Rattle.aeth_router.specs.declared.part.Part.TheVariants.{Interface, Router, Stage, TableRouter}
 use Rattle.aeth_components.proofs.FrameLemmas.{from-map, views-map}
-use Rattle.aeth_components.specs.Changes.{on_interface, switched}
-use Rattle.aeth_components.specs.Components.{ComponentsState, Cycle, driven_from, latched_of}
-use Rattle.aeth_components.specs.Components.{moment_of, ready_of, switched_from}
-use Rattle.aeth_components.specs.Frames.{frame_of}
-use Rattle.aeth_components.specs.Phases.{Moment, in_turn, pulled}
-use Rattle.aeth_components.specs.Switching.{entry_in}
-use Rattle.aeth_components.specs.View.{queue_in}
-use Rattle.aeth_components.specs.declared.event.Event.{Event}
+use Rattle.aeth_components.specs.{Changes.on_interface, Changes.switched}
+use Rattle.aeth_components.specs.{Components.ComponentsState, Components.Cycle}
+use Rattle.aeth_components.specs.{Components.driven_from, Components.latched_of}
+use Rattle.aeth_components.specs.{Components.moment_of, Components.ready_of}
+use Rattle.aeth_components.specs.{Components.switched_from, Frames.frame_of, Phases.Moment}
+use Rattle.aeth_components.specs.{Phases.in_turn, Phases.pulled, Switching.entry_in, View.queue_in}
+use Rattle.aeth_components.specs.{declared.event.Event.Event}
 use Rattle.aeth_refinement.specs.Fabric.{Fabric}
 use Rattle.aeth_invariant.proofs.Kept.{kept-refilling, kept-switched, kept-taking}
-use Rattle.aeth_invariant.specs.Routed.{AreRoutedBy, IsRoutedBy, table_from, table_in, without_table}
+use Rattle.aeth_invariant.specs.Routed.{AreRoutedBy, IsRoutedBy, table_from, table_in}
+use Rattle.aeth_invariant.specs.Routed.{without_table}
 use Rattle.aeth_invariant.specs.View.{HaveLatched, net_of}
 
 -- ---- a cycle keeps tables

@@ -1,33 +1,25 @@
 -- From cycle to cycle components run on: they are prepared, do a cycle, and are where they were.
 use Rattle.std.proofs.Common.{◌≡◌, ◌≤◌, ◌<◌, ◌∙◌, ◌⊎◌, ℕ, ◌+◌, ◌-◌, refl, sym, ap, subst, arith}
-use Rattle.std.proofs.Common.{inl, inr, true}
-use Rattle.std.proofs.Common.{ltb, leb, List, Option, Some, length, map, get_or, slice_get}
-use Rattle.std.proofs.lemmas.Bool.{and_from, and_parts, cases_lt, le-leb, leb-true, lt-ltb}
-use Rattle.std.proofs.lemmas.Bool.{ltb-true}
+use Rattle.std.proofs.Common.{inl, inr, true, ltb, leb, List, Option, Some, length, map, get_or}
+use Rattle.std.proofs.Common.{slice_get, le-leb, leb-true, lt-ltb, ltb-true}
+use Rattle.std.proofs.lemmas.Bool.{and_from, and_parts, cases_lt}
 use Rattle.std.proofs.lemmas.Option.{same_Some, slice_get-get_or, slice_get_within}
 use Rattle.aeth_clocked.specs.declared.flit.Flit.{Flit}
 use Rattle.aeth_router.specs.declared.part.Part.{Part}
 use Rattle.aeth_components.proofs.KeptLemmas.{IsUncounted, kept-cycle, kept-latched, lane-kept}
-use Rattle.aeth_components.specs.Components.{ComponentsState, Cycle, frames_of, latched_of}
-use Rattle.aeth_components.specs.Frames.{Frame, IsWired, frame_of}
-use Rattle.aeth_components.specs.Lanes.{is_open}
-use Rattle.aeth_components.specs.Phases.{Moment}
-use Rattle.aeth_components.specs.declared.event.Event.{Event}
-use Rattle.aeth_components.specs.declared.lane.Lane.{Lane}
-use Rattle.aeth_server.proofs.SessionEnds.{idle-before}
-use Rattle.aeth_server.proofs.PrivateServerLemmas.{sent-more}
+use Rattle.aeth_components.specs.{Components.ComponentsState, Components.Cycle}
+use Rattle.aeth_components.specs.{Components.frames_of, Components.latched_of, Frames.Frame}
+use Rattle.aeth_components.specs.{Frames.IsWired, Frames.frame_of, Lanes.is_open, Phases.Moment}
+use Rattle.aeth_components.specs.{declared.event.Event.Event, declared.lane.Lane.Lane}
+use Rattle.aeth_server.proofs.{SessionEnds.idle-before, PrivateServerLemmas.sent-more}
 use Rattle.aeth_server.specs.PrivateServer.{arrived}
-use Rattle.aeth_refinement.proofs.Unique.{paths-of}
-use Rattle.aeth_refinement.specs.Accepted.{IsAccepted}
-use Rattle.aeth_refinement.specs.Fabric.{Fabric, IsGoing, server_at}
-use Rattle.aeth_refinement.specs.Standing.{Stands}
+use Rattle.aeth_refinement.{proofs.Unique.paths-of, specs.Accepted.IsAccepted, specs.Fabric.Fabric}
+use Rattle.aeth_refinement.{specs.Fabric.IsGoing, specs.Fabric.server_at, specs.Standing.Stands}
 use Rattle.aeth_invariant.proofs.Routed.{frames-but_tables, latched-but_tables, net-but_tables}
-use Rattle.aeth_invariant.specs.Following.{Follows}
-use Rattle.aeth_invariant.specs.Framed.{IsFramed}
-use Rattle.aeth_invariant.specs.Routed.{without_table}
-use Rattle.aeth_invariant.specs.Running.{HasCounts, Prepares, Runs, Starts}
-use Rattle.aeth_invariant.specs.Served.{AreServed, HasLane, IsInUse, IsLaneOf}
-use Rattle.aeth_invariant.specs.View.{HaveLatched, net_of}
+use Rattle.aeth_invariant.specs.{Following.Follows, Framed.IsFramed, Routed.without_table}
+use Rattle.aeth_invariant.specs.{Running.HasCounts, Running.Prepares, Running.Runs, Running.Starts}
+use Rattle.aeth_invariant.specs.{Served.AreServed, Served.HasLane, Served.IsInUse, Served.IsLaneOf}
+use Rattle.aeth_invariant.specs.{View.HaveLatched, View.net_of}
 
 -- The cycles of a channel, and the place of its first word.
 abbrev pub cycles_in : Lane → ℕ × ℕ × ℕ

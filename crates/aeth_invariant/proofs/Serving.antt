@@ -1,21 +1,13 @@
 -- The channels that are in use, and the queues of their sessions.
 use Rattle.std.proofs.Common.{◌≡◌, ◌<◌, ◌∙◌, ◌⊎◌, ℕ, zero, suc, refl, sym, ap, subst, arith, inl}
-use Rattle.std.proofs.Common.{inr}
-use Rattle.std.proofs.Common.{Bool, true, false, ltb, leb, ◌&&◌, List, [], ◌∷◌, Some, slice_get}
-use Rattle.std.specs.Prelude.{◌==◌}
-use Rattle.std.proofs.lemmas.Bool.{and_from, and_parts, cases_Bool, eq-eqb, eqb-true, le-leb}
-use Rattle.std.proofs.lemmas.Bool.{lt-ltb}
-use Rattle.std.proofs.lemmas.Option.{same_Some}
+use Rattle.std.proofs.Common.{inr, Bool, true, false, ltb, leb, ◌&&◌, List, [], ◌∷◌, Some}
+use Rattle.std.proofs.Common.{slice_get, ◌==◌, eq-eqb, eqb-true, le-leb, lt-ltb}
+use Rattle.std.proofs.lemmas.{Bool.and_from, Bool.and_parts, Bool.cases_Bool, Option.same_Some}
 use Rattle.aeth_router.specs.declared.part.Part.{Part}
-use Rattle.aeth_components.specs.Alone.{IsAlone}
-use Rattle.aeth_components.specs.Frames.{Frame}
-use Rattle.aeth_components.specs.Lanes.{is_open}
-use Rattle.aeth_components.specs.View.{HasQueue}
-use Rattle.aeth_components.specs.View.{queue_of as queue_in}
-use Rattle.aeth_components.specs.declared.lane.ChannelEnd.{ChannelEnd}
-use Rattle.aeth_components.specs.declared.lane.Lane.{Lane}
-use Rattle.aeth_refinement.proofs.Owning.{going-back, owns-going}
-use Rattle.aeth_refinement.proofs.Unique.{known-back}
+use Rattle.aeth_components.specs.{Alone.IsAlone, Frames.Frame, Lanes.is_open, View.HasQueue}
+use Rattle.aeth_components.specs.{View.queue_of as queue_in, declared.lane.ChannelEnd.ChannelEnd}
+use Rattle.aeth_components.specs.{declared.lane.Lane.Lane}
+use Rattle.aeth_refinement.proofs.{Owning.going-back, Owning.owns-going, Unique.known-back}
 use Rattle.aeth_refinement.specs.Accepted.{IsAccepted}
 use Rattle.aeth_refinement.specs.Fabric.{Fabric, IsGoing, IsSameQueue}
 use Rattle.aeth_invariant.specs.Framed.{HasSession, IsEndOf}

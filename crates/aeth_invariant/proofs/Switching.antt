@@ -1,8 +1,8 @@
 -- Events that are those of a fabric's sessions make what the law on networks says.
-use Rattle.std.proofs.Common.{◌≡◌, ◌<◌, ◌∙◌, ◌⊎◌, ℕ, refl, sym, ap, arith, inl, inr}
-use Rattle.std.proofs.Common.{Bool, true, false, ◌&&◌, List, Option, Some, None, map, slice_get}
-use Rattle.std.specs.Prelude.{◌==◌}
-use Rattle.std.proofs.lemmas.Bool.{and_from, and_parts, eq-eqb, eqb-true}
+use Rattle.std.proofs.Common.{◌≡◌, ◌<◌, ◌∙◌, ◌⊎◌, ℕ, refl, sym, ap, arith, inl, inr, Bool, true}
+use Rattle.std.proofs.Common.{false, ◌&&◌, List, Option, Some, None, map, slice_get, ◌==◌, eq-eqb}
+use Rattle.std.proofs.Common.{eqb-true}
+use Rattle.std.proofs.lemmas.Bool.{and_from, and_parts}
 use Rattle.aeth_base.specs.declared.ids.NiId.{NiId}
 use Rattle.aeth_clocked.specs.declared.flit.Flit.{Flit}
 use Rattle.aeth_ni.specs.Queue.{QueueState, finished, stopped, with_route, without_route}
@@ -20,12 +20,10 @@ use Rattle.aeth_components.specs.declared.lane.ChannelEnd.{ChannelEnd}
 use Rattle.aeth_refinement.specs.Components.{Net, queue_of}
 use Rattle.aeth_refinement.specs.Fabric.{Fabric, has_slot}
 use Rattle.aeth_refinement.specs.Switches.{HasEvent, IsEntryAt, IsSetNow, Switched, finish_of}
-use Rattle.aeth_refinement.specs.Switches.{freed_of, halt_of}
-use Rattle.aeth_refinement.specs.Switches.{set_of}
+use Rattle.aeth_refinement.specs.Switches.{freed_of, halt_of, set_of}
 use Rattle.aeth_invariant.proofs.Serving.{found-or-none}
-use Rattle.aeth_invariant.specs.Events.{AreEvents, IsEventOf, Occurs, OnQueue, ni_of, queue_end}
-use Rattle.aeth_invariant.specs.Framed.{IsFramed}
-use Rattle.aeth_invariant.specs.View.{net_of}
+use Rattle.aeth_invariant.specs.{Events.AreEvents, Events.IsEventOf, Events.Occurs, Events.OnQueue}
+use Rattle.aeth_invariant.specs.{Events.ni_of, Events.queue_end, Framed.IsFramed, View.net_of}
 
 -- Whether an event changes a queue, and whether it writes a slot.
 abbrev is_end : ℕ → ℕ → Option ChannelEnd → Bool

@@ -1,33 +1,25 @@
 -- Taking, channel by channel, is that of the law.
 use Rattle.std.proofs.Common.{◌≡◌, ◌≤◌, ◌<◌, ◌∙◌, ℕ, ◌+◌, ◌-◌, min, sym, ap, subst, arith, inl, inr}
-use Rattle.std.proofs.Common.{Bool, cond, List, Option, Some, length, map, slice_get}
-use Rattle.std.proofs.lemmas.Bool.{lt-ltb}
+use Rattle.std.proofs.Common.{Bool, cond, List, Option, Some, length, map, slice_get, lt-ltb}
 use Rattle.aeth_clocked.specs.declared.flit.Flit.{Flit}
 use Rattle.aeth_ni.specs.Queue.{QueueState}
-use Rattle.aeth_components.specs.Alone.{Done}
-use Rattle.aeth_components.specs.Frames.{frame_of}
-use Rattle.aeth_components.specs.Laws.{TakesAlone}
-use Rattle.aeth_components.specs.Phases.{Moment, asked_of, in_turn, pulled}
-use Rattle.aeth_components.specs.Queues.{drawn, draws}
-use Rattle.aeth_components.specs.Switching.{entry_of}
-use Rattle.aeth_components.specs.View.{queue_of as queue_in}
-use Rattle.aeth_components.specs.declared.lane.Lane.{Lane}
+use Rattle.aeth_components.specs.{Alone.Done, Frames.frame_of, Laws.TakesAlone, Phases.Moment}
+use Rattle.aeth_components.specs.{Phases.asked_of, Phases.in_turn, Phases.pulled, Queues.drawn}
+use Rattle.aeth_components.specs.{Queues.draws, Switching.entry_of, View.queue_of as queue_in}
+use Rattle.aeth_components.specs.{declared.lane.Lane.Lane}
 use Rattle.aeth_server.specs.PrivateServer.{landed, pull_at, taken}
-use Rattle.aeth_refinement.proofs.Owning.{going-back}
-use Rattle.aeth_refinement.proofs.Unique.{known-back}
-use Rattle.aeth_refinement.specs.Accepted.{IsAccepted}
-use Rattle.aeth_refinement.specs.Components.{Net, queue_of}
-use Rattle.aeth_refinement.specs.Cycle.{Took}
-use Rattle.aeth_refinement.specs.Fabric.{Fabric, IsGoing, IsSameQueue, server_at}
+use Rattle.aeth_refinement.proofs.{Owning.going-back, Unique.known-back}
+use Rattle.aeth_refinement.specs.{Accepted.IsAccepted, Components.Net, Components.queue_of}
+use Rattle.aeth_refinement.specs.{Cycle.Took, Fabric.Fabric, Fabric.IsGoing, Fabric.IsSameQueue}
+use Rattle.aeth_refinement.specs.{Fabric.server_at}
 use Rattle.aeth_invariant.proofs.Drawing.{drawn-few, drawn-kept, taken-drawn}
 use Rattle.aeth_invariant.proofs.Kept.{entries_in, entries_in-changed, kept-taking}
 use Rattle.aeth_invariant.proofs.OneQueue.{entry_of-same}
 use Rattle.aeth_invariant.proofs.Refilling.{same-queue, still-open}
 use Rattle.aeth_invariant.proofs.Serving.{IsNone, alone-none, alone-receiver, at-end, found-or-none}
 use Rattle.aeth_invariant.proofs.Serving.{has-queue, opened, user-of, uses}
-use Rattle.aeth_invariant.specs.Framed.{IsEndOf, IsFramed}
-use Rattle.aeth_invariant.specs.Served.{AreServed, HasLane, IsServed}
-use Rattle.aeth_invariant.specs.View.{net_of}
+use Rattle.aeth_invariant.specs.{Framed.IsEndOf, Framed.IsFramed, Served.AreServed, Served.HasLane}
+use Rattle.aeth_invariant.specs.{Served.IsServed, View.net_of}
 
 module _ (fabric : Fabric) (ok : IsAccepted fabric) (channel : ℕ → ℕ) (words : List ℕ)
     (t lands takes : ℕ) (handed : ℕ → ℕ) (moment : Moment) (wires : List (Option Flit)) (count : ℕ)

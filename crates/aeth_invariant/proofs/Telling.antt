@@ -1,28 +1,20 @@
 -- Flits are counted as the law on networks has them.
-use Rattle.std.proofs.Common.{◌≡◌, ◌<◌, ◌∙◌, ℕ, suc, ◌+◌, sym, ap, arith, Bool}
-use Rattle.std.proofs.Common.{cond, List, [], ◌∷◌, ◌++◌, Option, Some, None, length, get_or}
-use Rattle.std.proofs.Common.{slice_get}
-use Rattle.std.specs.Prelude.{◌==◌, count_by, not, sum_by, unwrap_or}
-use Rattle.std.specs.List.{range_with_len}
-use Rattle.std.specs.Option.{option_to_list}
+use Rattle.std.proofs.Common.{◌≡◌, ◌<◌, ◌∙◌, ℕ, suc, ◌+◌, sym, ap, arith, Bool, cond, List, [], ◌∷◌}
+use Rattle.std.proofs.Common.{◌++◌, Option, Some, None, length, get_or, slice_get, ◌==◌, count_by}
+use Rattle.std.proofs.Common.{not, sum_by, unwrap_or}
 use Rattle.std.proofs.lemmas.List.FromFn.{length-range_with_len}
 use Rattle.std.proofs.lemmas.List.Sums.{count_by-le-length, sum_by-append}
 use Rattle.std.proofs.lemmas.Option.{same_Some, slice_get-get_or, slice_get_within}
-use Rattle.aeth_base.proofs.Ranges.{range_with_len-more}
-use Rattle.aeth_base.specs.Limits.{max_cycles}
-use Rattle.aeth_clocked.specs.Wires.{flit_on}
-use Rattle.aeth_clocked.specs.declared.flit.Flit.{Flit}
+use Rattle.std.specs.{List.range_with_len, Option.option_to_list}
+use Rattle.aeth_base.{proofs.Ranges.range_with_len-more, specs.Limits.max_cycles}
+use Rattle.aeth_clocked.specs.{Wires.flit_on, declared.flit.Flit.Flit}
 use Rattle.aeth_ni.specs.Limits.{max_count}
-use Rattle.aeth_components.proofs.CountingLemmas.{length-flits_counted}
-use Rattle.aeth_components.proofs.NoteLemmas.{flits_counted-at}
+use Rattle.aeth_components.proofs.{CountingLemmas.length-flits_counted, NoteLemmas.flits_counted-at}
 use Rattle.aeth_components.specs.Components.{ComponentsState, Cycle, IsComponents}
 use Rattle.aeth_components.specs.Counting.{flits_counted, with_flit}
 use Rattle.aeth_components.specs.declared.event.Event.{Event}
-use Rattle.aeth_refinement.proofs.Listed.{wires-carry}
-use Rattle.aeth_refinement.specs.Accepted.{IsAccepted}
-use Rattle.aeth_refinement.specs.Carried.{Exact}
-use Rattle.aeth_refinement.specs.Carries.{carries}
-use Rattle.aeth_refinement.specs.Fabric.{Fabric}
+use Rattle.aeth_refinement.{proofs.Listed.wires-carry, specs.Accepted.IsAccepted}
+use Rattle.aeth_refinement.{specs.Carried.Exact, specs.Carries.carries, specs.Fabric.Fabric}
 use Rattle.aeth_invariant.specs.Telling.{CountsFlits, is_carried}
 
 -- What passes a test among some numbers and one more.

@@ -1,26 +1,18 @@
 -- What the channel of a session tells, also once this is finished.
 use Rattle.std.proofs.Common.{◌≡◌, ◌≤◌, ◌<◌, ◌∙◌, ℕ, ◌+◌, min, sym, ap, subst, arith, inl, inr}
-use Rattle.std.proofs.Common.{false}
-use Rattle.std.proofs.Common.{leb, ltb, List, Some, slice_get}
-use Rattle.std.specs.Prelude.{option_map}
-use Rattle.std.proofs.lemmas.Bool.{and_parts, cases_Bool, cases_lt, ltb-true}
-use Rattle.std.proofs.lemmas.Option.{slice_get-map}
+use Rattle.std.proofs.Common.{false, leb, ltb, List, Some, slice_get, option_map, ltb-true}
+use Rattle.std.proofs.lemmas.{Bool.and_parts, Bool.cases_Bool, Bool.cases_lt, Option.slice_get-map}
 use Rattle.aeth_components.proofs.CountingLemmas.{counted-closed}
-use Rattle.aeth_components.specs.Components.{ComponentsState, Cycle, driven_from, latched_of}
-use Rattle.aeth_components.specs.Components.{moment_of}
-use Rattle.aeth_components.specs.Components.{ready_of, switched_from}
-use Rattle.aeth_components.specs.Counting.{counted}
-use Rattle.aeth_components.specs.Lanes.{is_open}
-use Rattle.aeth_components.specs.Laws.{RefillsAlone, TakesAlone}
-use Rattle.aeth_components.specs.Phases.{Moment}
-use Rattle.aeth_components.specs.declared.event.Event.{Event}
-use Rattle.aeth_components.specs.declared.lane.Lane.{Lane}
+use Rattle.aeth_components.specs.{Components.ComponentsState, Components.Cycle}
+use Rattle.aeth_components.specs.{Components.driven_from, Components.latched_of}
+use Rattle.aeth_components.specs.{Components.moment_of, Components.ready_of}
+use Rattle.aeth_components.specs.{Components.switched_from, Counting.counted, Lanes.is_open}
+use Rattle.aeth_components.specs.{Laws.RefillsAlone, Laws.TakesAlone, Phases.Moment}
+use Rattle.aeth_components.specs.{declared.event.Event.Event, declared.lane.Lane.Lane}
 use Rattle.aeth_server.specs.PrivateServer.{landed, taken}
 use Rattle.aeth_refinement.specs.Fabric.{Fabric, IsGoing, server_at}
-use Rattle.aeth_invariant.specs.Following.{Follows}
-use Rattle.aeth_invariant.specs.Running.{Prepares, Starts}
-use Rattle.aeth_invariant.specs.Served.{IsLaneOf}
-use Rattle.aeth_invariant.specs.Telling.{HasTold}
+use Rattle.aeth_invariant.specs.{Following.Follows, Running.Prepares, Running.Starts}
+use Rattle.aeth_invariant.specs.{Served.IsLaneOf, Telling.HasTold}
 
 module _ (fabric : Fabric) (channel : ℕ → ℕ) (events : List Event) (t : ℕ) (more : ℕ → ℕ)
     (old ready new : ComponentsState)

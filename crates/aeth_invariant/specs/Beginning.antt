@@ -1,18 +1,14 @@
 -- Components before the first cycle.
 -- This project's own.
-use Rattle.std.specs.Prelude.{◌≡◌, ◌≤◌, ◌<◌, ℕ, List, None, Some, length, slice_get}
+use Rattle.std.proofs.Common.{◌≡◌, ◌≤◌, ◌<◌, ℕ, List, None, Some, length, slice_get}
 use Rattle.aeth_clocked.specs.Wires.{flit_on}
 use Rattle.aeth_ni.specs.Queue.{empty_queue}
-use Rattle.aeth_components.specs.Changes.{switched}
-use Rattle.aeth_components.specs.Components.{ComponentsState, frames_of}
-use Rattle.aeth_components.specs.Frames.{IsWired}
-use Rattle.aeth_components.specs.Switching.{entry_of}
-use Rattle.aeth_components.specs.View.{queue_of}
-use Rattle.aeth_components.specs.declared.event.Event.{Event}
-use Rattle.aeth_components.specs.declared.lane.Lane.{Lane}
+use Rattle.aeth_components.specs.{Changes.switched, Components.ComponentsState}
+use Rattle.aeth_components.specs.{Components.frames_of, Frames.IsWired, Switching.entry_of}
+use Rattle.aeth_components.specs.{View.queue_of, declared.event.Event.Event}
+use Rattle.aeth_components.specs.{declared.lane.Lane.Lane}
 use Rattle.aeth_refinement.specs.Fabric.{Fabric, server_at}
-use Rattle.aeth_invariant.specs.Framed.{IsFramed}
-use Rattle.aeth_invariant.specs.View.{HaveLatched}
+use Rattle.aeth_invariant.specs.{Framed.IsFramed, View.HaveLatched}
 
 -- The queue from which a session sends is empty, with room for the buffer of what lands there.
 pub record HasRoom (fabric : Fabric) (all : ComponentsState) (c : ℕ) : Type 0 where

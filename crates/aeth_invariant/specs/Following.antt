@@ -1,14 +1,10 @@
 -- Components that follow the private servers of a fabric.
 -- This project's own.
-use Rattle.std.specs.Prelude.{ℕ, ◌+◌, length}
-use Rattle.aeth_components.specs.Components.{ComponentsState, frames_of}
-use Rattle.aeth_components.specs.Frames.{IsWired}
-use Rattle.aeth_refinement.specs.Fabric.{Fabric}
-use Rattle.aeth_refinement.specs.Standing.{Stands}
-use Rattle.aeth_invariant.specs.Framed.{IsFramed}
-use Rattle.aeth_invariant.specs.Routed.{AreRoutedBy}
-use Rattle.aeth_invariant.specs.Served.{AreServed}
-use Rattle.aeth_invariant.specs.View.{HaveLatched, net_of}
+use Rattle.std.proofs.Common.{ℕ, ◌+◌, length}
+use Rattle.aeth_components.specs.{Components.ComponentsState, Components.frames_of, Frames.IsWired}
+use Rattle.aeth_refinement.specs.{Fabric.Fabric, Standing.Stands}
+use Rattle.aeth_invariant.specs.{Framed.IsFramed, Routed.AreRoutedBy, Served.AreServed}
+use Rattle.aeth_invariant.specs.{View.HaveLatched, View.net_of}
 
 -- The components are those of a fabric, each holds what its last wires had, they stand as the private
 -- servers say, and each channel in use in cycle t is that of a session, with the counts after k

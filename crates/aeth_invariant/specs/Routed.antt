@@ -5,13 +5,12 @@
 --   table_from      from which wire such a router sends on a port
 --   IsRoutedBy, AreRoutedBy      routers with tables send on as the sessions of a fabric go
 -- Tables in routers: this project's own.
-use Rattle.std.specs.Prelude.{◌≡◌, ◌<◌, ◌%◌, ◌==◌, ℕ, List, [], Option, Some, None}
-use Rattle.std.specs.Prelude.{option_and_then, position, slice_get}
+use Rattle.std.proofs.Common.{◌≡◌, ◌<◌, ◌%◌, ◌==◌, ℕ, List, [], Option, Some, None, option_and_then}
+use Rattle.std.proofs.Common.{position, slice_get}
 use Rattle.aeth_router.specs.TableRouter.{TableRouterState, entry_at}
 use Rattle.aeth_router.specs.declared.part.Part.{Part}
 use Rattle.aeth_router.specs.declared.part.Part.TheVariants.{Interface, Router, Stage, TableRouter}
-use Rattle.aeth_refinement.specs.Fabric.{Fabric}
-use Rattle.aeth_refinement.specs.Tables.{AreEntries}
+use Rattle.aeth_refinement.specs.{Fabric.Fabric, Tables.AreEntries}
 
 -- A component without its table, if it is a router with one: the router that has the same wires, and holds
 -- the same flits.

@@ -4,18 +4,14 @@
 --   Runs      what holds before a cycle
 --   HasStart, Prepares      sessions that go are loaded, and each is given what the cycle brings
 -- This project's own.
-use Rattle.std.specs.Prelude.{◌≡◌, ◌≤◌, ◌<◌, ◌⊎◌, ℕ, ◌+◌, true, List, Some, length, map, slice_get}
-use Rattle.aeth_components.specs.Components.{ComponentsState, frames_of}
-use Rattle.aeth_components.specs.Frames.{IsWired}
-use Rattle.aeth_components.specs.Lanes.{is_open}
-use Rattle.aeth_components.specs.declared.lane.Lane.{Lane}
+use Rattle.std.proofs.Common.{◌≡◌, ◌≤◌, ◌<◌, ◌⊎◌, ℕ, ◌+◌, true, List, Some, length, map, slice_get}
+use Rattle.aeth_components.specs.{Components.ComponentsState, Components.frames_of, Frames.IsWired}
+use Rattle.aeth_components.specs.{Lanes.is_open, declared.lane.Lane.Lane}
 use Rattle.aeth_server.specs.PrivateServer.{arrived}
-use Rattle.aeth_refinement.specs.Fabric.{Fabric, IsGoing, server_at}
-use Rattle.aeth_refinement.specs.Standing.{Stands}
-use Rattle.aeth_invariant.specs.Framed.{IsFramed}
-use Rattle.aeth_invariant.specs.Routed.{AreRoutedBy, without_table}
-use Rattle.aeth_invariant.specs.Served.{IsCounted, IsFed, IsInUse, IsLaneOf}
-use Rattle.aeth_invariant.specs.View.{HaveLatched, net_of}
+use Rattle.aeth_refinement.specs.{Fabric.Fabric, Fabric.IsGoing, Fabric.server_at, Standing.Stands}
+use Rattle.aeth_invariant.specs.{Framed.IsFramed, Routed.AreRoutedBy, Routed.without_table}
+use Rattle.aeth_invariant.specs.{Served.IsCounted, Served.IsFed, Served.IsInUse, Served.IsLaneOf}
+use Rattle.aeth_invariant.specs.{View.HaveLatched, View.net_of}
 
 module _ (fabric : Fabric) (channel : ℕ → ℕ) where
   -- The channel of a session is its own, with its counts.

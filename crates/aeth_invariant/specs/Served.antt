@@ -5,15 +5,12 @@
 --   IsServed, AreServed      all of these, and so each channel that is in use
 --   handed_after      how many words were handed on, once source queues are refilled
 -- This project's own.
-use Rattle.std.specs.Prelude.{◌≡◌, ◌<◌, ℕ, ◌+◌, ◌&&◌, nat_le, nat_lt, true, if◌then◌else◌, List}
-use Rattle.std.specs.Prelude.{Some, length, slice_get}
-use Rattle.aeth_components.specs.Lanes.{is_open}
-use Rattle.aeth_components.specs.declared.lane.Lane.{Lane}
+use Rattle.std.proofs.Common.{◌≡◌, ◌<◌, ℕ, ◌+◌, ◌&&◌, nat_le, nat_lt, true, if◌then◌else◌, List}
+use Rattle.std.proofs.Common.{Some, length, slice_get}
+use Rattle.aeth_components.specs.{Lanes.is_open, declared.lane.Lane.Lane}
 use Rattle.aeth_server.specs.PrivateServer.{arrived, landed, taken}
-use Rattle.aeth_refinement.specs.Carried.{words_from}
-use Rattle.aeth_refinement.specs.Components.{Net}
-use Rattle.aeth_refinement.specs.Cycle.{handing}
-use Rattle.aeth_refinement.specs.Fabric.{Fabric, IsGoing, flow_at, server_at}
+use Rattle.aeth_refinement.specs.{Carried.words_from, Components.Net, Cycle.handing, Fabric.Fabric}
+use Rattle.aeth_refinement.specs.{Fabric.IsGoing, Fabric.flow_at, Fabric.server_at}
 use Rattle.aeth_invariant.specs.Framed.{IsEndOf}
 
 module _ (fabric : Fabric) where

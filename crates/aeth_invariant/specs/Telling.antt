@@ -5,14 +5,12 @@
 --   NotesLandings      they have noted when each word landed, at its place among all words
 --   HasTold      the channel of a session has what a log tells of it
 -- This project's own.
-use Rattle.std.specs.Prelude.{◌≡◌, ◌≤◌, ◌<◌, ℕ, ◌+◌, ◌==◌, min, not, Bool, Some, count_by, length}
-use Rattle.std.specs.Prelude.{slice_get}
+use Rattle.std.proofs.Common.{◌≡◌, ◌≤◌, ◌<◌, ℕ, ◌+◌, ◌==◌, min, not, Bool, Some, count_by, length}
+use Rattle.std.proofs.Common.{slice_get}
 use Rattle.std.specs.List.{range_with_len}
-use Rattle.aeth_components.specs.Components.{ComponentsState}
-use Rattle.aeth_components.specs.declared.lane.Lane.{Lane}
+use Rattle.aeth_components.specs.{Components.ComponentsState, declared.lane.Lane.Lane}
 use Rattle.aeth_server.specs.PrivateServer.{landed, taken}
-use Rattle.aeth_refinement.specs.Carries.{carries}
-use Rattle.aeth_refinement.specs.Fabric.{Fabric, IsGoing, server_at}
+use Rattle.aeth_refinement.specs.{Carries.carries, Fabric.Fabric, Fabric.IsGoing, Fabric.server_at}
 use Rattle.aeth_invariant.specs.Served.{IsLaneOf}
 
 module _ (fabric : Fabric) where

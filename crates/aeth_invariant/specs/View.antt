@@ -3,16 +3,13 @@
 --   net_of      the components as a net
 --   HaveLatched      routers, of both kinds, and stages hold what the wires have
 -- This project's own.
-use Rattle.std.specs.Prelude.{◌≡◌, ℕ, List, Option, Some, map, slice_get}
-use Rattle.aeth_clocked.specs.Wires.{flit_on}
-use Rattle.aeth_clocked.specs.declared.flit.Flit.{Flit}
-use Rattle.aeth_router.specs.Router.{RouterState}
-use Rattle.aeth_router.specs.Stage.{StageState}
-use Rattle.aeth_router.specs.TableRouter.{TableRouterState}
-use Rattle.aeth_router.specs.declared.part.Part.{Part}
-use Rattle.aeth_router.specs.declared.part.Part.TheVariants.{Router, Stage, TableRouter}
-use Rattle.aeth_components.specs.Switching.{entry_of}
-use Rattle.aeth_components.specs.View.{queue_of}
+use Rattle.std.proofs.Common.{◌≡◌, ℕ, List, Option, Some, map, slice_get}
+use Rattle.aeth_clocked.specs.{Wires.flit_on, declared.flit.Flit.Flit}
+use Rattle.aeth_router.specs.{Router.RouterState, Stage.StageState, TableRouter.TableRouterState}
+use Rattle.aeth_router.specs.{declared.part.Part.Part, declared.part.Part.TheVariants.Router}
+use Rattle.aeth_router.specs.{declared.part.Part.TheVariants.Stage}
+use Rattle.aeth_router.specs.{declared.part.Part.TheVariants.TableRouter}
+use Rattle.aeth_components.specs.{Switching.entry_of, View.queue_of}
 use Rattle.aeth_refinement.specs.Components.{Net}
 
 -- Components as a net, behind these wires, where so many words of each session were handed on. What

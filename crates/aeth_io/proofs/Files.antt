@@ -1,10 +1,8 @@
 -- Laws of the files of a shelf in memory.
 use Rattle.std.proofs.Common.{◌≡◌, ◌∙◌, ◌+◌, ◌<◌, ◌∷◌, ℕ, true, List, Some, length, drop, get_or}
-use Rattle.std.proofs.Common.{ap, sym}
-use Rattle.std.specs.Global.{Global}
-use Rattle.std.specs.Prelude.{String, Vec, string_bytes}
-use Rattle.std.specs.Str.{bytes_eq}
+use Rattle.std.proofs.Common.{ap, sym, Global, String, Vec, string_bytes}
 use Rattle.std.proofs.lemmas.List.{at_drop_more}
+use Rattle.std.specs.Str.{bytes_eq}
 use Rattle.aeth_io.specs.MemShelf.{content_of, files_of}
 
 -- The first file is found where its name is the one that is sought.

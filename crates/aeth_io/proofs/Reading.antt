@@ -1,7 +1,6 @@
 -- Laws of a file that is read piece by piece.
 use Rattle.std.proofs.Common.{◌≡◌, ◌∙◌, ◌+◌, ◌≤◌, ◌++◌, ℕ, List, length, take, drop, ap, sym, arith}
-use Rattle.std.proofs.Common.{length-append}
-use Rattle.std.proofs.lemmas.List.{length-take, take_all}
+use Rattle.std.proofs.Common.{length-append, length-take, take_all}
 use Rattle.std.proofs.Math.Seq.{take-add}
 use Rattle.aeth_io.specs.Shelf.{ReadsFrom}
 

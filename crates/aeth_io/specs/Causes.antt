@@ -1,6 +1,6 @@
 -- Counted faults, and what a failure needs as its cause.
 -- This project's own.
-use Rattle.std.specs.Prelude.{ℕ, ◌≡◌, ◌+◌, ◌-◌, ◌^◌, ◌<◌, ◌⊎◌, min, List, Result, OnErr}
+use Rattle.std.proofs.Common.{ℕ, ◌≡◌, ◌+◌, ◌-◌, ◌^◌, ◌<◌, ◌⊎◌, min, List, Result, OnErr}
 
 -- The greatest number of a counter of 64 bits, which a counter that has reached it keeps.
 abbrev pub greatest_count : ℕ

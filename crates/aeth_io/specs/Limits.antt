@@ -1,6 +1,6 @@
 -- The size of a file.
 -- This project's own.
-use Rattle.std.specs.Prelude.{ℕ}
+use Rattle.std.proofs.Common.{ℕ}
 
 -- A file has at most so many bytes.
 abbrev pub max_file_bytes : ℕ

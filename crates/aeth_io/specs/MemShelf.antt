@@ -1,11 +1,9 @@
 -- A shelf in memory, and what one call on it does.
 -- This project's own.
-use Rattle.std.specs.Prelude.{ℕ, ◌-◌, ◌||◌, ◌==◌, ◌++◌, min, Bool, List, find, length, take, drop}
-use Rattle.std.specs.Prelude.{Option, is_none, if◌then◌else◌, map, string_bytes, String, Vec}
-use Rattle.std.specs.Global.{Global}
-use Rattle.std.specs.List.{list_any}
-use Rattle.std.specs.Option.{option_map}
-use Rattle.std.specs.Str.{bytes_eq}
+use Rattle.std.proofs.Common.{ℕ, ◌-◌, ◌||◌, ◌==◌, ◌++◌, min, Bool, List, find, length, take, drop}
+use Rattle.std.proofs.Common.{Option, is_none, if◌then◌else◌, map, string_bytes, String, Vec}
+use Rattle.std.proofs.Common.{Global}
+use Rattle.std.specs.{List.list_any, Option.option_map, Str.bytes_eq}
 use Rattle.aeth_io.specs.Causes.{one_more}
 
 -- A file: its name and its bytes.

@@ -1,7 +1,7 @@
 -- A sink in memory, and what one call on it does.
 -- This project's own.
-use Rattle.std.specs.Prelude.{ℕ, ◌-◌, ◌||◌, ◌==◌, ◌++◌, nat_le, min, Bool, List, length, take}
-use Rattle.std.specs.Prelude.{if◌then◌else◌}
+use Rattle.std.proofs.Common.{ℕ, ◌-◌, ◌||◌, ◌==◌, ◌++◌, nat_le, min, Bool, List, length, take}
+use Rattle.std.proofs.Common.{if◌then◌else◌}
 use Rattle.std.specs.List.{list_any}
 use Rattle.aeth_io.specs.Causes.{one_more}
 

@@ -1,6 +1,6 @@
 -- What a call on a shelf reads of a file.
 -- This project's own.
-use Rattle.std.specs.Prelude.{ℕ, ◌≡◌, ◌≤◌, List, length, take, drop}
+use Rattle.std.proofs.Common.{ℕ, ◌≡◌, ◌≤◌, List, length, take, drop}
 
 -- The first n bytes of a buffer are the next ones of the file from a place on.
 abbrev pub ReadsFrom : List ℕ → ℕ → ℕ → List ℕ → Type 0

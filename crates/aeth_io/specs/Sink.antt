@@ -1,6 +1,6 @@
 -- What was written to a sink, which may not tell it.
 -- This project's own.
-use Rattle.std.specs.Prelude.{ℕ, ◌≡◌, ◌<◌, ◌++◌, List, length, Option, Some, None}
+use Rattle.std.proofs.Common.{ℕ, ◌≡◌, ◌<◌, ◌++◌, List, length, Option, Some, None}
 
 -- What was written before, and then these bytes. A sink that tells nothing still tells nothing.
 abbrev pub appended : Option (List ℕ) → List ℕ → Option (List ℕ)

@@ -1,41 +1,32 @@
 -- What the links carry is a clean log: no row of it breaks a rule.
-use Rattle.std.proofs.Common.{◌≡◌, ◌≤◌, ◌<◌, ◌∙◌, ℕ, zero, suc, ◌+◌, ◌-◌, ◌&&◌, Bool, true, false, cond}
-use Rattle.std.proofs.Common.{not}
-use Rattle.std.proofs.Common.{List, [], ◌∷◌, Contains, Option, Some, None, slice_get}
-use Rattle.std.proofs.Common.{refl, sym, ap, subst, inl, inr, arith}
-use Rattle.std.proofs.lemmas.Bool.{and_from, cases_lt, eq-eqb, le-leb, or_left, or_right}
-use Rattle.std.specs.Prelude.{◌==◌, IfSome, nat_le, unwrap_or}
+use Rattle.std.proofs.Common.{◌≡◌, ◌≤◌, ◌<◌, ◌∙◌, ℕ, zero, suc, ◌+◌, ◌-◌, ◌&&◌, Bool, true, false}
+use Rattle.std.proofs.Common.{cond, not, List, [], ◌∷◌, Contains, Option, Some, None, slice_get}
+use Rattle.std.proofs.Common.{refl, sym, ap, subst, inl, inr, arith, eq-eqb, le-leb, ◌==◌, IfSome}
+use Rattle.std.proofs.Common.{nat_le, unwrap_or}
+use Rattle.std.proofs.lemmas.Bool.{and_from, cases_lt, or_left, or_right}
 use Rattle.std.specs.Option.{option_map_or}
-use Rattle.aeth_base.specs.Limits.{max_path_delay}
-use Rattle.aeth_base.specs.declared.ids.LinkId.{LinkId}
+use Rattle.aeth_base.specs.{Limits.max_path_delay, declared.ids.LinkId.LinkId}
 use Rattle.aeth_base.proofs.Members.{Contains-here, Contains-slice_get, Contains-there}
 use Rattle.aeth_base.proofs.Members.{slice_get-Contains, sole-Contains}
-use Rattle.aeth_chip.specs.Paths.{delay_of, offset}
-use Rattle.aeth_chip.proofs.OffsetLemmas.{offset-more}
+use Rattle.aeth_chip.{specs.Paths.delay_of, specs.Paths.offset, proofs.OffsetLemmas.offset-more}
 use Rattle.aeth_server.proofs.SlotCycleLemmas.{is_slot-member}
 use Rattle.aeth_clocked.specs.declared.flit.Flit.{Flit}
-use Rattle.aeth_report.specs.Carries.{IsCarried, IsSendable, carries, flit_at, injects}
-use Rattle.aeth_report.specs.Channels.{channels_of}
-use Rattle.aeth_report.specs.Design.{Design, grant_at}
-use Rattle.aeth_report.specs.Flows.{Flow, Run, flow_of, sessions_in}
-use Rattle.aeth_report.specs.Sound.{IsSound}
-use Rattle.aeth_report.specs.declared.session.Close.{Close}
-use Rattle.aeth_report.specs.declared.session.Session.{Session}
-use Rattle.aeth_report.proofs.CarriesLemmas.{carries-sole, carries-some}
-use Rattle.aeth_report.proofs.ChannelLemmas.{channels_of-known}
-use Rattle.aeth_report.proofs.FlowPlaces.{IsFlowOf}
-use Rattle.aeth_report.proofs.OneFlit.{IsKnown, carried-known, one_flit}
-use Rattle.aeth_report.proofs.StaysAlone.{at-Contains}
-use Rattle.aeth_audit.specs.Audit.{audit_of, broken_by, comes_from, fault_before, first_fault, goes_on}
-use Rattle.aeth_audit.specs.Audit.{goes_to, has_after, has_before, is_joined}
-use Rattle.aeth_audit.specs.Audit.{is_of_channel, row_on, rule_at}
-use Rattle.aeth_audit.specs.Limits.{broken_off, foreign}
-use Rattle.aeth_audit.specs.Reservations.{Reservation}
-use Rattle.aeth_audit.specs.Reserved.{IsReserved}
-use Rattle.aeth_audit.specs.declared.row.LinkRow.{LinkRow}
-use Rattle.aeth_audit.specs.declared.verdict.Audit.TheVariants.{Clean}
-use Rattle.aeth_audit.proofs.FaultLemmas.{reserved-first}
-use Rattle.aeth_audit.proofs.OneReservation.{AreSessionsOf}
+use Rattle.aeth_report.specs.{Carries.IsCarried, Carries.IsSendable, Carries.carries}
+use Rattle.aeth_report.specs.{Carries.flit_at, Carries.injects, Channels.channels_of, Design.Design}
+use Rattle.aeth_report.specs.{Design.grant_at, Flows.Flow, Flows.Run, Flows.flow_of}
+use Rattle.aeth_report.specs.{Flows.sessions_in, Sound.IsSound, declared.session.Close.Close}
+use Rattle.aeth_report.specs.{declared.session.Session.Session}
+use Rattle.aeth_report.proofs.{CarriesLemmas.carries-sole, CarriesLemmas.carries-some}
+use Rattle.aeth_report.proofs.{ChannelLemmas.channels_of-known, FlowPlaces.IsFlowOf}
+use Rattle.aeth_report.proofs.{OneFlit.IsKnown, OneFlit.carried-known, OneFlit.one_flit}
+use Rattle.aeth_report.proofs.{StaysAlone.at-Contains}
+use Rattle.aeth_audit.specs.{Audit.audit_of, Audit.broken_by, Audit.comes_from, Audit.fault_before}
+use Rattle.aeth_audit.specs.{Audit.first_fault, Audit.goes_on, Audit.goes_to, Audit.has_after}
+use Rattle.aeth_audit.specs.{Audit.has_before, Audit.is_joined, Audit.is_of_channel, Audit.row_on}
+use Rattle.aeth_audit.specs.{Audit.rule_at, Limits.broken_off, Limits.foreign}
+use Rattle.aeth_audit.specs.{Reservations.Reservation, Reserved.IsReserved}
+use Rattle.aeth_audit.specs.{declared.row.LinkRow.LinkRow, declared.verdict.Audit.TheVariants.Clean}
+use Rattle.aeth_audit.proofs.{FaultLemmas.reserved-first, OneReservation.AreSessionsOf}
 use Rattle.aeth_links.specs.Carried.{carried_rows, row_of}
 use Rattle.aeth_links.proofs.FlitLemmas.{flit-addressed, flit-goes_on}
 use Rattle.aeth_links.proofs.FlowLemmas.{IsFitting}

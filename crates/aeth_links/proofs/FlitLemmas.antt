@@ -1,11 +1,10 @@
 -- The flits of a flow: how they are addressed, and how they go on.
-use Rattle.std.proofs.Common.{◌≡◌, ◌∙◌, ℕ, zero, suc, ◌+◌, ◌*◌, ◌/◌, ◌^◌, ◌&&◌, ◌||◌, Bool}
-use Rattle.std.proofs.Common.{true, List, [], ◌∷◌, take, not, refl, ap, arith}
-use Rattle.std.proofs.lemmas.Bool.{and_from, and_parts, eq-eqb, le-leb, or_left, or_right}
-use Rattle.std.specs.Prelude.{◌==◌, nat_le, slice_index}
+use Rattle.std.proofs.Common.{◌≡◌, ◌∙◌, ℕ, zero, suc, ◌+◌, ◌*◌, ◌/◌, ◌^◌, ◌&&◌, ◌||◌, Bool, true}
+use Rattle.std.proofs.Common.{List, [], ◌∷◌, take, not, refl, ap, arith, eq-eqb, le-leb, ◌==◌}
+use Rattle.std.proofs.Common.{nat_le, slice_index}
+use Rattle.std.proofs.lemmas.Bool.{and_from, and_parts, or_left, or_right}
 use Rattle.aeth_base.specs.Limits.{words_per_flit}
-use Rattle.aeth_header.specs.Layout.{port_bits}
-use Rattle.aeth_header.specs.declared.header.Header.{Header}
+use Rattle.aeth_header.specs.{Layout.port_bits, declared.header.Header.Header}
 use Rattle.aeth_header.proofs.HeaderLemmas.{fields_of-word_of}
 use Rattle.aeth_report.specs.Carries.{IsSendable, flit_at, header_at, injects, returns, sends}
 use Rattle.aeth_report.specs.Flows.{Flow}

@@ -1,23 +1,16 @@
 -- The flows of accepted inputs fit their headers, and their paths are of the chip's links.
-use Rattle.std.proofs.Common.{◌≡◌, ◌<◌, ◌^◌, ◌∙◌, ℕ, Some, Contains, length, slice_get}
-use Rattle.std.proofs.Common.{ap, subst}
+use Rattle.std.proofs.Common.{◌≡◌, ◌<◌, ◌^◌, ◌∙◌, ℕ, Some, Contains, length, slice_get, ap, subst}
+use Rattle.std.proofs.Common.{IsTrue}
 use Rattle.std.proofs.lemmas.Option.{slice_get_within}
-use Rattle.std.specs.Prelude.{IsTrue}
-use Rattle.aeth_base.specs.declared.ids.Channel.{Channel}
-use Rattle.aeth_base.specs.declared.ids.LinkId.{LinkId}
+use Rattle.aeth_base.specs.declared.ids.{Channel.Channel, LinkId.LinkId}
 use Rattle.aeth_chip.specs.Paths.{IsAdmissible}
 use Rattle.aeth_group.specs.Members.{group_at, groups_of, has_at}
 use Rattle.aeth_header.specs.Layout.{queue_bits}
-use Rattle.aeth_report.specs.Carries.{IsSendable}
-use Rattle.aeth_report.specs.Channels.{opposite}
-use Rattle.aeth_report.specs.Design.{grant_at}
-use Rattle.aeth_report.specs.Flows.{Flow, Run, flow_of, sessions_in}
-use Rattle.aeth_report.specs.Sound.{IsSound}
-use Rattle.aeth_report.specs.declared.session.Session.{Session}
-use Rattle.aeth_report.proofs.ClosingLemmas.{stay_of}
-use Rattle.aeth_report.proofs.FlowPlaces.{IsFlowOf}
-use Rattle.aeth_report.proofs.OneFlit.{session-paths}
-use Rattle.aeth_report.proofs.StaysAlone.{at-Contains}
+use Rattle.aeth_report.specs.{Carries.IsSendable, Channels.opposite, Design.grant_at, Flows.Flow}
+use Rattle.aeth_report.specs.{Flows.Run, Flows.flow_of, Flows.sessions_in, Sound.IsSound}
+use Rattle.aeth_report.specs.{declared.session.Session.Session}
+use Rattle.aeth_report.proofs.{ClosingLemmas.stay_of, FlowPlaces.IsFlowOf, OneFlit.session-paths}
+use Rattle.aeth_report.proofs.{StaysAlone.at-Contains}
 use Rattle.aeth_accepted.specs.Inputs.{AreAccepted, Inputs, design_of, row_at, run_of}
 use Rattle.aeth_fabric.proofs.PathHops.{route_fits, there}
 use Rattle.aeth_fabric.proofs.SessionRows.{fits_remote, leads}

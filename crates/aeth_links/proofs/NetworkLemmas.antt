@@ -1,25 +1,18 @@
 -- What the wires of the network of accepted inputs show, cycle by cycle.
-use Rattle.std.proofs.Common.{◌≡◌, ◌≤◌, ◌+◌, ◌++◌, ◌∙◌, ℕ, suc, List, [], ◌∷◌, Option}
-use Rattle.std.proofs.Common.{length, refl, sym, ap, subst, arith}
-use Rattle.std.proofs.lemmas.Grind.{flat_map-append}
-use Rattle.std.proofs.lemmas.List.{append_assoc, append-nil}
-use Rattle.std.proofs.lemmas.List.Concat.{flat_map-cons}
-use Rattle.std.specs.Prelude.{flat_map, map}
+use Rattle.std.proofs.Common.{◌≡◌, ◌≤◌, ◌+◌, ◌++◌, ◌∙◌, ℕ, suc, List, [], ◌∷◌, Option, length, refl}
+use Rattle.std.proofs.Common.{sym, ap, subst, arith, append_assoc, append-nil, flat_map, map}
+use Rattle.std.proofs.lemmas.{Grind.flat_map-append, List.Concat.flat_map-cons}
 use Rattle.std.specs.List.{range_with_len}
 use Rattle.aeth_base.proofs.Members.{Contains-slice_get}
 use Rattle.aeth_base.proofs.Ranges.{range-Contains, range_with_len-more}
 use Rattle.aeth_clocked.specs.declared.flit.Flit.{Flit}
-use Rattle.aeth_report.specs.Flows.{Run}
-use Rattle.aeth_report.specs.Log.{LogData}
+use Rattle.aeth_report.specs.{Flows.Run, Log.LogData}
 use Rattle.aeth_accepted.specs.Inputs.{Inputs, run_of}
 use Rattle.aeth_fabric.proofs.Carrying.{flat_map-same}
-use Rattle.aeth_running.specs.Network.{NetworkState, first_network, played}
-use Rattle.aeth_running.specs.Routing.{ByHeaders}
-use Rattle.aeth_running.specs.Running.{IsRunning}
-use Rattle.aeth_network.specs.Runs.{AreWiresOf, IsNetworkOf}
-use Rattle.aeth_network.proofs.Playing.{played-log}
-use Rattle.aeth_audit.specs.Lines.{row_line}
-use Rattle.aeth_audit.specs.declared.row.LinkRow.{LinkRow}
+use Rattle.aeth_running.specs.{Network.NetworkState, Network.first_network, Network.played}
+use Rattle.aeth_running.specs.{Routing.ByHeaders, Running.IsRunning}
+use Rattle.aeth_network.{specs.Runs.AreWiresOf, specs.Runs.IsNetworkOf, proofs.Playing.played-log}
+use Rattle.aeth_audit.specs.{Lines.row_line, declared.row.LinkRow.LinkRow}
 use Rattle.aeth_links.specs.Carried.{lines_of, row_of, rows_in, rows_on}
 use Rattle.aeth_links.specs.Seen.{rows_at, rows_seen}
 

@@ -1,19 +1,17 @@
 -- The rows of what links carry: which they are, and which stands for a link in a cycle.
 use Rattle.std.proofs.Common.{◌≡◌, ◌≤◌, ◌<◌, ◌∙◌, ℕ, ◌&&◌, Bool, List, [], ◌∷◌, Some, filter}
-use Rattle.std.proofs.Common.{Contains, length, refl, sym, ap, subst, arith}
-use Rattle.std.proofs.lemmas.Bool.{and_from, and_parts, eqb-true, eq-eqb, lt-ltb, ltb-true}
-use Rattle.std.specs.Prelude.{◌==◌, nat_lt}
+use Rattle.std.proofs.Common.{Contains, length, refl, sym, ap, subst, arith, eqb-true, eq-eqb}
+use Rattle.std.proofs.Common.{lt-ltb, ltb-true, ◌==◌, nat_lt}
+use Rattle.std.proofs.lemmas.Bool.{and_from, and_parts}
 use Rattle.std.specs.List.{range_with_len}
-use Rattle.aeth_base.proofs.Members.{Contains-filter, Contains-flat_map}
-use Rattle.aeth_base.proofs.Members.{Contains-here, Contains-map, filter-Contains}
-use Rattle.aeth_base.proofs.Members.{flat_map-Contains, map-Contains, sole-Contains}
+use Rattle.aeth_base.proofs.Members.{Contains-filter, Contains-flat_map, Contains-here}
+use Rattle.aeth_base.proofs.Members.{Contains-map, filter-Contains, flat_map-Contains, map-Contains}
+use Rattle.aeth_base.proofs.Members.{sole-Contains}
 use Rattle.aeth_base.proofs.Ranges.{Contains-range, range-Contains}
 use Rattle.aeth_clocked.specs.declared.flit.Flit.{Flit}
-use Rattle.aeth_report.specs.Carries.{carries}
-use Rattle.aeth_report.specs.Flows.{Run}
+use Rattle.aeth_report.specs.{Carries.carries, Flows.Run}
 use Rattle.aeth_tables.proofs.FindLaws.{found_is, found_some}
-use Rattle.aeth_audit.specs.Audit.{row_on}
-use Rattle.aeth_audit.specs.declared.row.LinkRow.{LinkRow}
+use Rattle.aeth_audit.specs.{Audit.row_on, declared.row.LinkRow.LinkRow}
 use Rattle.aeth_links.specs.Carried.{carried_rows, row_of, rows_in, rows_on}
 
 -- A list of one item has it.

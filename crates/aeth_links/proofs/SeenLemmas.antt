@@ -1,18 +1,12 @@
 -- The rows of what is seen on wires, from wire to wire.
-use Rattle.std.proofs.Common.{◌≡◌, ◌≤◌, ◌<◌, ◌+◌, ◌-◌, ◌++◌, ◌∙◌, ℕ, zero, suc, List, []}
-use Rattle.std.proofs.Common.{Option, None, sym, ap, inl, inr, arith}
-use Rattle.std.proofs.lemmas.Bool.{cases_lt}
-use Rattle.std.proofs.lemmas.Grind.{flat_map-append}
-use Rattle.std.proofs.lemmas.List.{append_assoc, append-nil}
-use Rattle.std.proofs.lemmas.List.Concat.{flat_map-cons}
-use Rattle.std.specs.Prelude.{flat_map, map}
-use Rattle.std.specs.List.{range_with_len}
-use Rattle.std.specs.Option.{option_to_list}
+use Rattle.std.proofs.Common.{◌≡◌, ◌≤◌, ◌<◌, ◌+◌, ◌-◌, ◌++◌, ◌∙◌, ℕ, zero, suc, List, [], Option}
+use Rattle.std.proofs.Common.{None, sym, ap, inl, inr, arith, append_assoc, append-nil, flat_map}
+use Rattle.std.proofs.Common.{map}
+use Rattle.std.proofs.lemmas.{Bool.cases_lt, Grind.flat_map-append, List.Concat.flat_map-cons}
+use Rattle.std.specs.{List.range_with_len, Option.option_to_list}
 use Rattle.aeth_base.proofs.Ranges.{range_more}
-use Rattle.aeth_clocked.specs.Wires.{flit_on}
-use Rattle.aeth_clocked.specs.declared.flit.Flit.{Flit}
-use Rattle.aeth_audit.specs.Lines.{row_line}
-use Rattle.aeth_audit.specs.declared.row.LinkRow.{LinkRow}
+use Rattle.aeth_clocked.specs.{Wires.flit_on, declared.flit.Flit.Flit}
+use Rattle.aeth_audit.specs.{Lines.row_line, declared.row.LinkRow.LinkRow}
 use Rattle.aeth_links.specs.Carried.{lines_of, row_of}
 use Rattle.aeth_links.specs.Seen.{rows_at, rows_from, rows_seen}
 

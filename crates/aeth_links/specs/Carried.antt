@@ -4,15 +4,12 @@
 --   rows_on, rows_in, carried_rows      the rows of a link in a cycle, of all links, and of a run
 --   lines_of, log_text      the text of rows
 -- This project's own.
-use Rattle.std.specs.Prelude.{ℕ, ◌++◌, List, flat_map, length, map}
+use Rattle.std.proofs.Common.{ℕ, ◌++◌, List, flat_map, length, map}
 use Rattle.std.specs.List.{join_with_byte, range_with_len}
-use Rattle.aeth_text.specs.Limits.{comma}
-use Rattle.aeth_text.specs.Spelling.{ended_line}
+use Rattle.aeth_text.specs.{Limits.comma, Spelling.ended_line}
 use Rattle.aeth_clocked.specs.declared.flit.Flit.{Flit}
-use Rattle.aeth_report.specs.Carries.{carries}
-use Rattle.aeth_report.specs.Flows.{Run}
-use Rattle.aeth_audit.specs.Lines.{column_names, row_line}
-use Rattle.aeth_audit.specs.declared.row.LinkRow.{LinkRow}
+use Rattle.aeth_report.specs.{Carries.carries, Flows.Run}
+use Rattle.aeth_audit.specs.{Lines.column_names, Lines.row_line, declared.row.LinkRow.LinkRow}
 
 -- The row of a flit that enters a link in a cycle.
 abbrev pub row_of : ℕ → ℕ → Flit → LinkRow

@@ -1,10 +1,8 @@
 -- The rows of what is seen on wires.
 -- This project's own.
-use Rattle.std.specs.Prelude.{ℕ, ◌-◌, List, Option, flat_map, map}
-use Rattle.std.specs.List.{range_with_len}
-use Rattle.std.specs.Option.{option_to_list}
-use Rattle.aeth_clocked.specs.Wires.{flit_on}
-use Rattle.aeth_clocked.specs.declared.flit.Flit.{Flit}
+use Rattle.std.proofs.Common.{ℕ, ◌-◌, List, Option, flat_map, map}
+use Rattle.std.specs.{List.range_with_len, Option.option_to_list}
+use Rattle.aeth_clocked.specs.{Wires.flit_on, declared.flit.Flit.Flit}
 use Rattle.aeth_audit.specs.declared.row.LinkRow.{LinkRow}
 use Rattle.aeth_links.specs.Carried.{row_of}
 

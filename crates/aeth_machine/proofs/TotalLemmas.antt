@@ -1,9 +1,7 @@
 -- Laws of what a log comes to.
-use Rattle.std.proofs.Common.{◌≤◌, List, length}
-use Rattle.std.specs.Prelude.{nat_lt, sum_by}
+use Rattle.std.proofs.Common.{◌≤◌, List, length, nat_lt, sum_by}
 use Rattle.std.proofs.lemmas.List.Sums.{count_by-le-length, sum_by-le-sum_by}
-use Rattle.aeth_report.specs.Log.{ChannelData}
-use Rattle.aeth_report.specs.Regular.{landings_in}
+use Rattle.aeth_report.specs.{Log.ChannelData, Regular.landings_in}
 use Rattle.aeth_machine.specs.Totals.{late_in, late_rows}
 
 -- There are no more late landings than landings.

@@ -1,9 +1,8 @@
 -- The inputs of a run, by what is judged together.
 -- This project's own.
-use Rattle.std.specs.Prelude.{ℕ}
+use Rattle.std.proofs.Common.{ℕ}
 use Rattle.aeth_accepted.specs.Inputs.{Inputs}
-use Rattle.aeth_plan.specs.Plan.{PlanData}
-use Rattle.aeth_plan.specs.declared.design.Design.{Design}
+use Rattle.aeth_plan.specs.{Plan.PlanData, declared.design.Design.Design}
 use Rattle.aeth_machine.specs.declared.traces.Traces.{Traces}
 
 -- The inputs of a run of so many cycles.

@@ -1,8 +1,7 @@
 -- What the log of a run comes to.
 -- This project's own.
-use Rattle.std.specs.Prelude.{ℕ, nat_lt, List, count_by, sum_by}
-use Rattle.aeth_report.specs.Log.{ChannelData}
-use Rattle.aeth_report.specs.declared.log.Landing.{Landing}
+use Rattle.std.proofs.Common.{ℕ, nat_lt, List, count_by, sum_by}
+use Rattle.aeth_report.specs.{Log.ChannelData, declared.log.Landing.Landing}
 
 -- The landings that are later than their due cycle.
 abbrev pub late_rows : List Landing → ℕ

@@ -1,24 +1,18 @@
 -- Sessions that are added to their channels one by one.
-use Rattle.std.proofs.Common.{◌≡◌, ◌≢◌, ◌≤◌, ◌<◌, ◌+◌, ◌*◌, ◌++◌, ◌∙◌}
-use Rattle.std.proofs.Common.{ℕ, zero, suc, List, [], ◌∷◌, Some, ap, arith}
-use Rattle.std.proofs.Common.{false, flat_map, get_or, length, map, refl, set, slice_get, sym, take}
-use Rattle.std.proofs.Common.{true}
-use Rattle.std.specs.List.{range_with_len}
-use Rattle.std.proofs.lemmas.Bool.{eq-eqb, ne_eqb}
-use Rattle.std.proofs.lemmas.List.{append-nil, append_assoc, map-append, take_more}
-use Rattle.std.proofs.lemmas.List.Elements.{filter-append}
+use Rattle.std.proofs.Common.{◌≡◌, ◌≢◌, ◌≤◌, ◌<◌, ◌+◌, ◌*◌, ◌++◌, ◌∙◌, ℕ, zero, suc, List, [], ◌∷◌}
+use Rattle.std.proofs.Common.{Some, ap, arith, false, flat_map, get_or, length, map, refl, set}
+use Rattle.std.proofs.Common.{slice_get, sym, take, true, eq-eqb, ne_eqb, append-nil, append_assoc}
+use Rattle.std.proofs.lemmas.List.{map-append, take_more, Elements.filter-append}
 use Rattle.std.proofs.lemmas.Option.{same_Some}
+use Rattle.std.specs.List.{range_with_len}
 use Rattle.aeth_base.specs.declared.ids.Channel.{Channel}
-use Rattle.aeth_trace.specs.Channels.{channel_number}
-use Rattle.aeth_trace.specs.declared.words.WordRow.{WordRow}
+use Rattle.aeth_trace.specs.{Channels.channel_number, declared.words.WordRow.WordRow}
 use Rattle.aeth_report.specs.Channels.{channels_of, channels_with}
 use Rattle.aeth_report.specs.Log.{ChannelData, SessionData}
 use Rattle.aeth_schedule.specs.declared.going.Going.{Going}
 use Rattle.aeth_running.specs.FirstLog.{first_session}
-use Rattle.aeth_stimuli.specs.Stimuli.{goings_over}
-use Rattle.aeth_stimuli.specs.Stimuli.{is_over}
-use Rattle.aeth_network.specs.ByNumber.{each_by}
-use Rattle.aeth_network.specs.Records.{added_by, channel_from}
+use Rattle.aeth_stimuli.specs.Stimuli.{goings_over, is_over}
+use Rattle.aeth_network.specs.{ByNumber.each_by, Records.added_by, Records.channel_from}
 use Rattle.aeth_network.proofs.ByNumberLemmas.{each-alike, each-map, each-same, each-set, get-each}
 
 -- Channels stand at their numbers.

@@ -1,21 +1,17 @@
 -- Channels that have words which their receivers take: these take some as they stand, or by rows.
 use Rattle.std.proofs.Common.{◌≡◌, ◌≤◌, ◌<◌, ◌⊎◌, ◌+◌, ◌-◌, ◌==◌, ◌∙◌, ℕ, List, [], ◌∷◌, Some, ap}
 use Rattle.std.proofs.Common.{arith, drop, get_or, inl, inr, length, refl, slice_get, subst, suc}
-use Rattle.std.proofs.Common.{sym}
-use Rattle.std.specs.Prelude.{slice_range}
-use Rattle.std.specs.List.Sorted.{IsNonDecreasingBy}
-use Rattle.std.proofs.lemmas.Bool.{cases_Bool, cases_lt, eqb-true}
-use Rattle.std.proofs.lemmas.List.{length-take}
+use Rattle.std.proofs.Common.{sym, slice_range, eqb-true, length-take}
+use Rattle.std.proofs.lemmas.Bool.{cases_Bool, cases_lt}
 use Rattle.std.proofs.lemmas.Option.{slice_get-get_or, slice_get_within}
+use Rattle.std.specs.List.Sorted.{IsNonDecreasingBy}
 use Rattle.aeth_base.proofs.Lists.{slice_get-take}
 use Rattle.aeth_running.proofs.LandedWords.{slice_get-drop}
 use Rattle.aeth_components.specs.declared.lane.Lane.{Lane}
 use Rattle.aeth_stimuli.specs.Stimuli.{Take}
 use Rattle.aeth_network.specs.Behind.{passed}
-use Rattle.aeth_network.specs.Next.{AsksIn, HasAsker, HasRowTaker, HasTaker}
-use Rattle.aeth_network.specs.Next.{pull_behind}
-use Rattle.aeth_network.proofs.Passed.{passed-of}
-use Rattle.aeth_network.proofs.PullLemmas.{cycle_of}
+use Rattle.aeth_network.specs.Next.{AsksIn, HasAsker, HasRowTaker, HasTaker, pull_behind}
+use Rattle.aeth_network.proofs.{Passed.passed-of, PullLemmas.cycle_of}
 
 -- A channel that asks, at its place.
 pub asker-at : (lanes : List Lane) (takes : List Take) (place number t : ℕ) (d : Lane)

@@ -1,7 +1,7 @@
 -- Lists whose elements are changed by their numbers.
-use Rattle.std.proofs.Common.{◌≡◌, ◌≢◌, ◌≤◌, ◌<◌, ◌+◌, ◌++◌, ℕ, zero, suc, List, [], ◌∷◌}
-use Rattle.std.proofs.Common.{Some, ap, arith}
-use Rattle.std.proofs.Common.{drop, get_or, length, map, refl, replicate, set, slice_get, take}
+use Rattle.std.proofs.Common.{◌≡◌, ◌≢◌, ◌≤◌, ◌<◌, ◌+◌, ◌++◌, ℕ, zero, suc, List, [], ◌∷◌, Some, ap}
+use Rattle.std.proofs.Common.{arith, drop, get_or, length, map, refl, replicate, set, slice_get}
+use Rattle.std.proofs.Common.{take}
 use Rattle.aeth_network.specs.ByNumber.{each_by}
 
 module _ {X : Type 0} (f : ℕ → X → X) where

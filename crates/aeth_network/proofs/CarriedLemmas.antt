@@ -1,10 +1,9 @@
 -- What cycles cost, by the flits that they carry.
-use Rattle.std.proofs.Common.{◌≡◌, ◌≤◌, ◌+◌, ◌-◌, ◌*◌, ◌∙◌, ℕ, zero, suc, ap, arith}
-use Rattle.std.proofs.Common.{refl, subst, sym}
+use Rattle.std.proofs.Common.{◌≡◌, ◌≤◌, ◌+◌, ◌-◌, ◌*◌, ◌∙◌, ℕ, zero, suc, ap, arith, refl, subst}
+use Rattle.std.proofs.Common.{sym}
 use Rattle.aeth_components.specs.Turns.{flits_on}
 use Rattle.aeth_running.specs.Network.{NetworkState, played}
-use Rattle.aeth_network.specs.Carried.{carried_in}
-use Rattle.aeth_network.proofs.NextBusy.{played-sum}
+use Rattle.aeth_network.{specs.Carried.carried_in, proofs.NextBusy.played-sum}
 
 -- The flits of the last of some cycles are among those of all, and so many cycles carry what some of them
 -- do and then the others.

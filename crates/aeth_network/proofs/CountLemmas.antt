@@ -1,10 +1,8 @@
 -- How many items of a list pass a test.
-use Rattle.std.proofs.Common.{◌≡◌, ◌≤◌, ◌+◌, ℕ, zero, suc, Bool, true, List, [], ◌∷◌}
-use Rattle.std.proofs.Common.{arith, cond, drop, inl, inr}
-use Rattle.std.specs.Prelude.{All, count_by}
+use Rattle.std.proofs.Common.{◌≡◌, ◌≤◌, ◌+◌, ℕ, zero, suc, Bool, true, List, [], ◌∷◌, arith, cond}
+use Rattle.std.proofs.Common.{drop, inl, inr, All, count_by}
 use Rattle.std.proofs.lemmas.Bool.{cases_Bool}
-use Rattle.std.proofs.lemmas.List.Elements.{All-head, All-tail}
-use Rattle.std.proofs.lemmas.List.Sums.{sum_by-cons}
+use Rattle.std.proofs.lemmas.List.{Elements.All-head, Elements.All-tail, Sums.sum_by-cons}
 use Rattle.aeth_base.proofs.Lists.{count_by-no, count_by-yes}
 
 -- A word that passes a test counts once more.

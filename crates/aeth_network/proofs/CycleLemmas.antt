@@ -1,22 +1,21 @@
 -- A cycle of components: it is exact, and it keeps what holds of them and of the room of channels.
 use Rattle.std.proofs.Common.{◌≡◌, ◌≤◌, ◌+◌, ◌∙◌, ℕ, zero, suc, List, [], ◌∷◌, Option, None, Some}
-use Rattle.std.proofs.Common.{ap, arith, fold, inl, inr, length, map, refl, set, slice_get, subst, sym}
+use Rattle.std.proofs.Common.{ap, arith, fold, inl, inr, length, map, refl, set, slice_get, subst}
+use Rattle.std.proofs.Common.{sym, count_by}
+use Rattle.std.proofs.lemmas.{Bool.cases_Bool, Option.same_Some, Option.slice_get-get_or}
 use Rattle.std.specs.List.{All, range_with_len}
-use Rattle.std.specs.Prelude.{count_by}
-use Rattle.std.proofs.lemmas.Bool.{cases_Bool}
-use Rattle.std.proofs.lemmas.Option.{same_Some, slice_get-get_or}
 use Rattle.aeth_clocked.specs.declared.flit.Flit.{Flit}
 use Rattle.aeth_router.specs.declared.part.Part.{Part}
-use Rattle.aeth_components.specs.declared.event.Event.{Event}
-use Rattle.aeth_components.specs.declared.lane.Lane.{Lane}
+use Rattle.aeth_components.specs.declared.{event.Event.Event, lane.Lane.Lane}
 use Rattle.aeth_components.specs.Components.{ComponentsState, Cycle, IsComponents, components_of}
-use Rattle.aeth_components.specs.Components.{driven_from, frames_of, latched_of, moment_of, ready_of}
-use Rattle.aeth_components.specs.Components.{switched_from}
+use Rattle.aeth_components.specs.Components.{driven_from, frames_of, latched_of, moment_of}
+use Rattle.aeth_components.specs.Components.{ready_of, switched_from}
 use Rattle.aeth_components.specs.Counting.{counted, flits_counted, noted}
 use Rattle.aeth_components.specs.Frames.{Frame, IsWired}
 use Rattle.aeth_components.specs.Lanes.{IsLane, is_open}
 use Rattle.aeth_components.specs.Phases.{Moment, pulled, refilled, turned, turned_at}
-use Rattle.aeth_components.proofs.CountingLemmas.{IsLane-counted, length-flits_counted, length-notes}
+use Rattle.aeth_components.proofs.CountingLemmas.{IsLane-counted, length-flits_counted}
+use Rattle.aeth_components.proofs.CountingLemmas.{length-notes}
 use Rattle.aeth_components.proofs.FrameLemmas.{length-wires_driven}
 use Rattle.aeth_components.proofs.TurnLemmas.{IsLane-pulled, IsLane-refilled}
 use Rattle.aeth_running.specs.Network.{state_behind}

@@ -1,41 +1,30 @@
 -- What a cycle brings, read off the rows between two places, and the components that it makes ready.
-use Rattle.std.proofs.Common.{◌≡◌, ◌≤◌, ◌<◌, ◌+◌, ◌==◌, ◌++◌, ◌∙◌, ◌-◌, ◌^◌, ℕ, List, []}
-use Rattle.std.proofs.Common.{ap, arith, cond, drop, fold, length}
-use Rattle.std.proofs.Common.{refl, subst, sym}
-use Rattle.std.specs.Prelude.{All, slice_range, vec_capacity}
+use Rattle.std.proofs.Common.{◌≡◌, ◌≤◌, ◌<◌, ◌+◌, ◌==◌, ◌++◌, ◌∙◌, ◌-◌, ◌^◌, ℕ, List, [], ap, arith}
+use Rattle.std.proofs.Common.{cond, drop, fold, length, refl, subst, sym, All, slice_range}
+use Rattle.std.proofs.Common.{vec_capacity, length-append}
 use Rattle.std.proofs.lemmas.Bool.Decides.{nat_tests}
-use Rattle.std.proofs.lemmas.List.{length-append, length-map}
-use Rattle.std.proofs.lemmas.List.Elements.{All-drop, All-filter, All-take, All-weaker}
-use Rattle.std.proofs.lemmas.List.Sums.{sum_by-append}
+use Rattle.std.proofs.lemmas.List.{length-map, Elements.All-drop, Elements.All-filter}
+use Rattle.std.proofs.lemmas.List.{Elements.All-take, Elements.All-weaker, Sums.sum_by-append}
 use Rattle.aeth_trace.specs.Channels.{channel_number}
-use Rattle.aeth_components.specs.Components.{ComponentsState, Cycle, frames_of}
-use Rattle.aeth_components.specs.Events.{IsDoable}
-use Rattle.aeth_components.specs.Frames.{Frame, frame_of}
-use Rattle.aeth_components.specs.Lanes.{IsLane}
-use Rattle.aeth_components.specs.declared.event.Event.{Event}
+use Rattle.aeth_components.specs.{Components.ComponentsState, Components.Cycle}
+use Rattle.aeth_components.specs.{Components.frames_of, Events.IsDoable, Frames.Frame}
+use Rattle.aeth_components.specs.{Frames.frame_of, Lanes.IsLane, declared.event.Event.Event}
 use Rattle.aeth_schedule.specs.declared.going.Going.{Going}
-use Rattle.aeth_stimuli.specs.Events.{events_in}
+use Rattle.aeth_stimuli.specs.{Events.events_in, Stimuli.Offer, Stimuli.Take}
 use Rattle.aeth_running.specs.Network.{NetworkState, gone_with, goings_in, offers_in, ready_in}
 use Rattle.aeth_running.specs.Network.{stepped, takes_in, untils_in}
 use Rattle.aeth_running.specs.Routing.{Entering, entered_with, enterings_in, later_rows}
 use Rattle.aeth_running.specs.Quiet.{brought_over}
-use Rattle.aeth_stimuli.specs.Stimuli.{Offer, Take}
-use Rattle.aeth_network.specs.Behind.{IsBehind, passed}
-use Rattle.aeth_network.specs.Brought.{CanBring, IsBrought}
-use Rattle.aeth_network.specs.Fits.{AreFit, HaveCounts, is_accepted}
-use Rattle.aeth_network.specs.Networks.{IsNetwork}
-use Rattle.aeth_network.specs.declared.given.CycleRows.{CycleRows}
-use Rattle.aeth_network.specs.declared.state.State.{State}
-use Rattle.aeth_network.specs.declared.network.RoutedNetwork.TheInside.{Inside}
-use Rattle.aeth_network.proofs.FitLemmas.{AreFit-all_gone}
-use Rattle.aeth_network.proofs.MappedRows.{events-range}
-use Rattle.aeth_network.proofs.SeenNetworks.{seen, seen_next}
-use Rattle.aeth_network.specs.Cursors.{routing_with, stimuli_with}
-use Rattle.aeth_network.specs.Routes.{routing_in}
-use Rattle.aeth_network.proofs.Passed.{passed-few}
-use Rattle.aeth_network.proofs.Ready.{All-passing, coming-are, frames-ready, goings-are, length-in}
-use Rattle.aeth_network.proofs.Ready.{ways-are}
-use Rattle.aeth_network.proofs.Stepping.{behind-is}
+use Rattle.aeth_network.specs.{Behind.IsBehind, Behind.passed, Brought.CanBring, Brought.IsBrought}
+use Rattle.aeth_network.specs.{Fits.AreFit, Fits.HaveCounts, Fits.is_accepted, Networks.IsNetwork}
+use Rattle.aeth_network.specs.{declared.given.CycleRows.CycleRows, declared.state.State.State}
+use Rattle.aeth_network.specs.{declared.network.RoutedNetwork.TheInside.Inside}
+use Rattle.aeth_network.specs.{Cursors.routing_with, Cursors.stimuli_with, Routes.routing_in}
+use Rattle.aeth_network.proofs.{FitLemmas.AreFit-all_gone, MappedRows.events-range}
+use Rattle.aeth_network.proofs.{SeenNetworks.seen, SeenNetworks.seen_next, Passed.passed-few}
+use Rattle.aeth_network.proofs.{Ready.All-passing, Ready.coming-are, Ready.frames-ready}
+use Rattle.aeth_network.proofs.{Ready.goings-are, Ready.length-in, Ready.ways-are}
+use Rattle.aeth_network.proofs.{Stepping.behind-is}
 
 module _ (all : Inside) (is : IsNetwork (vec_capacity all.state.replaced) (seen all)) where
   abbrev old : NetworkState

@@ -1,28 +1,26 @@
 -- Rows that enter the tables of a network's routers, and those of use cases.
-use Rattle.std.proofs.Common.{◌≡◌, ◌<◌, ◌∙◌, ℕ, All, List, [], ◌∷◌, ap}
-use Rattle.std.proofs.Common.{fold, length, map, refl, subst, sym, true}
-use Rattle.std.specs.Prelude.{Ok}
+use Rattle.std.proofs.Common.{◌≡◌, ◌<◌, ◌∙◌, ℕ, All, List, [], ◌∷◌, ap, fold, length, map, refl}
+use Rattle.std.proofs.Common.{subst, sym, true, Ok}
 use Rattle.std.proofs.lemmas.List.{length-map}
-use Rattle.std.proofs.lemmas.List.Elements.{All-cons, All-head, All-map, All-nil, All-tail, All-weaker}
+use Rattle.std.proofs.lemmas.List.Elements.{All-cons, All-head, All-map, All-nil, All-tail}
+use Rattle.std.proofs.lemmas.List.Elements.{All-weaker}
 use Rattle.aeth_router.proofs.RowLemmas.{row-fits}
 use Rattle.aeth_router.specs.Rows.{IsRowFor, is_for, with_table}
 use Rattle.aeth_router.specs.declared.part.Part.{Part}
 use Rattle.aeth_router.specs.declared.part.Part.TheVariants.{Interface, Router, Stage, TableRouter}
 use Rattle.aeth_router.specs.declared.router_row.RouterRow.{RouterRow}
-use Rattle.aeth_trace.specs.Spans.{SpanData}
-use Rattle.aeth_trace.specs.Switches.{is_first_at_zero}
-use Rattle.aeth_trace.specs.declared.switches.SwitchRow.{SwitchRow}
+use Rattle.aeth_trace.specs.{Spans.SpanData, Switches.is_first_at_zero}
+use Rattle.aeth_trace.specs.{declared.switches.SwitchRow.SwitchRow}
 use Rattle.aeth_components.specs.Entering.{TakesRows, entered, with_rows}
 use Rattle.aeth_accepted.specs.Inputs.{Inputs, run_of}
 use Rattle.aeth_running.proofs.PlayedTables.{later-fit, played-tables, tables-take}
 use Rattle.aeth_running.proofs.RouterTables.{HaveTables}
 use Rattle.aeth_running.specs.Network.{NetworkState}
-use Rattle.aeth_running.specs.Routing.{AreRowsOn, Entering, entered_with}
-use Rattle.aeth_running.specs.Routing.{kind_of, later_rows, rows_before}
-use Rattle.aeth_schedule.specs.Switching.{later_switches, switches_from}
-use Rattle.aeth_schedule.specs.Schedule.{ScheduleData, schedule_of}
-use Rattle.aeth_schedule.specs.Windows.{window_by, windows_over}
-use Rattle.aeth_schedule.specs.declared.windows.Window.{Window}
+use Rattle.aeth_running.specs.Routing.{AreRowsOn, Entering, entered_with, kind_of, later_rows}
+use Rattle.aeth_running.specs.Routing.{rows_before}
+use Rattle.aeth_schedule.specs.{Switching.later_switches, Switching.switches_from}
+use Rattle.aeth_schedule.specs.{Schedule.ScheduleData, Schedule.schedule_of, Windows.window_by}
+use Rattle.aeth_schedule.specs.{Windows.windows_over, declared.windows.Window.Window}
 use Rattle.aeth_network.specs.Routes.{entered_by, entered_in, entered_use, first_use, later_uses}
 use Rattle.aeth_network.specs.Runs.{IsNetworkOf}
 use Rattle.aeth_network.specs.declared.tables.EnteredUse.{EnteredUse}

@@ -1,28 +1,25 @@
 -- A run has few sessions: a counter of 32 bits can count them.
 use Rattle.std.proofs.Common.{◌≡◌, ◌≤◌, ◌<◌, ◌*◌, ◌^◌, ℕ, List, [], ◌∷◌, Some, None, ap, arith}
 use Rattle.std.proofs.Common.{filter, flat_map, inl, inr, length, map, nat_lt, not, refl}
-use Rattle.std.specs.List.{range_with_len}
+use Rattle.std.proofs.Common.{length-append}
 use Rattle.std.proofs.lemmas.Bool.{cases_lt}
-use Rattle.std.proofs.lemmas.List.{get_or_past, length-append, length-map}
+use Rattle.std.proofs.lemmas.List.{get_or_past, length-map}
 use Rattle.std.proofs.lemmas.List.FromFn.{get_or-map-range_with_len, length-map-range_with_len}
+use Rattle.std.specs.List.{range_with_len}
 use Rattle.aeth_app.specs.Limits.{max_connections}
-use Rattle.aeth_base.specs.declared.ids.UseId.{UseId}
-use Rattle.aeth_base.proofs.Filters.{filter-few}
+use Rattle.aeth_base.{specs.declared.ids.UseId.UseId, proofs.Filters.filter-few}
 use Rattle.aeth_server.specs.declared.shape.ChannelShape.{ChannelShape}
 use Rattle.aeth_group.specs.Members.{GroupsData, groups_of, has_at, is_kept}
 use Rattle.aeth_group.proofs.MemberLemmas.{connections-groups_of}
 use Rattle.aeth_ni.specs.declared.row.ChannelRow.{ChannelRow}
 use Rattle.aeth_trace.specs.Spans.{SpanData}
-use Rattle.aeth_trace.specs.declared.switches.SwitchRow.{SwitchRow}
-use Rattle.aeth_trace.specs.declared.words.WordRow.{WordRow}
-use Rattle.aeth_tables.specs.Granted.{channels_with}
-use Rattle.aeth_tables.specs.Tables.{tables_of}
+use Rattle.aeth_trace.specs.declared.{switches.SwitchRow.SwitchRow, words.WordRow.WordRow}
+use Rattle.aeth_tables.specs.{Granted.channels_with, Tables.tables_of}
 use Rattle.aeth_tables.proofs.PromiseLaws.{keep_promises}
 use Rattle.aeth_accepted.specs.Inputs.{AreAccepted, Inputs, run_of}
 use Rattle.aeth_schedule.specs.Goings.{going_by, goings_behind, goings_from, goings_of}
 use Rattle.aeth_schedule.specs.Lines.{all_lines, changed_lines, lines_at, lines_of, lines_with}
-use Rattle.aeth_schedule.specs.declared.going.Going.{Going}
-use Rattle.aeth_schedule.specs.declared.lines.Line.{Line}
+use Rattle.aeth_schedule.specs.declared.{going.Going.Going, lines.Line.Line}
 
 -- Two channels a connection.
 pub over-two : (cs : List ℕ) → length (flat_map channels_with cs) ≡ 2 * length cs

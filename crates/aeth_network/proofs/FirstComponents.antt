@@ -1,31 +1,23 @@
 -- The components of a network before its first cycle, and the room of its channels.
-use Rattle.std.proofs.Common.{◌≡◌, ◌≤◌, ◌<◌, ◌+◌, ◌∙◌, ◌^◌, ℕ}
-use Rattle.std.proofs.Common.{List, None, ap, arith, length}
-use Rattle.std.proofs.Common.{map, replicate, subst, sym}
-use Rattle.std.specs.Prelude.{count_by, slice_index}
-use Rattle.std.proofs.lemmas.Bool.Decides.{nat_tests}
-use Rattle.std.proofs.lemmas.List.{get_or-replicate, length-map}
-use Rattle.std.proofs.lemmas.List.{length-replicate}
-use Rattle.std.proofs.lemmas.List.Elements.{All-replicate}
-use Rattle.std.proofs.lemmas.Option.{get_or_from_slice_get, slice_get_within}
+use Rattle.std.proofs.Common.{◌≡◌, ◌≤◌, ◌<◌, ◌+◌, ◌∙◌, ◌^◌, ℕ, List, None, ap, arith, length, map}
+use Rattle.std.proofs.Common.{replicate, subst, sym, count_by, slice_index}
+use Rattle.std.proofs.lemmas.{Bool.Decides.nat_tests, List.get_or-replicate, List.length-map}
+use Rattle.std.proofs.lemmas.{List.length-replicate, List.Elements.All-replicate}
+use Rattle.std.proofs.lemmas.{Option.get_or_from_slice_get, Option.slice_get_within}
 use Rattle.aeth_chip.proofs.WireLemmas.{have_delays, wires_of-few, wires_of-split}
-use Rattle.aeth_chip.specs.Chip.{ChipData, IsChip}
-use Rattle.aeth_chip.specs.Wires.{wires_of}
-use Rattle.aeth_components.specs.Changes.{switched}
-use Rattle.aeth_components.specs.Components.{ComponentsState, IsComponents, first_components, frames_of}
-use Rattle.aeth_components.specs.Components.{part_count}
-use Rattle.aeth_components.specs.Frames.{Frame, IsWired, frame_of}
-use Rattle.aeth_components.specs.Lanes.{IsLane}
-use Rattle.aeth_components.specs.Making.{new_parts}
-use Rattle.aeth_components.specs.declared.event.Event.{Event}
-use Rattle.aeth_components.specs.declared.making.RouterKind.TheVariants.{ByHeader}
+use Rattle.aeth_chip.specs.{Chip.ChipData, Chip.IsChip, Wires.wires_of}
+use Rattle.aeth_components.specs.{Changes.switched, Components.ComponentsState}
+use Rattle.aeth_components.specs.{Components.IsComponents, Components.first_components}
+use Rattle.aeth_components.specs.{Components.frames_of, Components.part_count, Frames.Frame}
+use Rattle.aeth_components.specs.{Frames.IsWired, Frames.frame_of, Lanes.IsLane, Making.new_parts}
+use Rattle.aeth_components.specs.{declared.event.Event.Event}
+use Rattle.aeth_components.specs.{declared.making.RouterKind.TheVariants.ByHeader}
 use Rattle.aeth_components.proofs.MadeLemmas.{IsWired-new, length-new_parts}
 use Rattle.aeth_components.proofs.PartLemmas.{frames-switched}
 use Rattle.aeth_report.proofs.Sums.{count_by-never}
 use Rattle.aeth_running.proofs.PlayedTables.{frames-first}
 use Rattle.aeth_running.specs.Routing.{Routing, entered_first, kind_of}
-use Rattle.aeth_stimuli.specs.Loaded.{no_lane}
-use Rattle.aeth_stimuli.specs.Stimuli.{Offer}
+use Rattle.aeth_stimuli.specs.{Loaded.no_lane, Stimuli.Offer}
 use Rattle.aeth_network.specs.Fits.{AreFit, HaveCounts, is_accepted}
 
 -- A channel of which no session has gone.

@@ -1,38 +1,28 @@
 -- The sessions of a run before it begins: their words are there, and their shapes have due times.
-use Rattle.std.proofs.Common.{◌≤◌, ◌<◌, ℕ, zero, suc, List, [], ◌∷◌}
-use Rattle.std.proofs.Common.{arith}
-use Rattle.std.proofs.Common.{get_or, inl, inr, length, map, min, nat_lt, not, refl, Option, Some}
-use Rattle.std.proofs.Common.{None, subst, sym}
-use Rattle.std.specs.List.{All}
+use Rattle.std.proofs.Common.{◌≤◌, ◌<◌, ℕ, zero, suc, List, [], ◌∷◌, arith, get_or, inl, inr}
+use Rattle.std.proofs.Common.{length, map, min, nat_lt, not, refl, Option, Some, None, subst, sym}
 use Rattle.std.proofs.lemmas.Bool.{cases_lt}
 use Rattle.std.proofs.lemmas.List.{get_or_past}
 use Rattle.std.proofs.lemmas.List.Elements.{All-append, All-cons, All-filter, All-head, All-map}
 use Rattle.std.proofs.lemmas.List.Elements.{All-nil, All-tail}
 use Rattle.std.proofs.lemmas.List.FromFn.{get_or-map-range_with_len, length-map-range_with_len}
-use Rattle.aeth_base.specs.declared.ids.Channel.{Channel}
-use Rattle.aeth_base.specs.declared.ids.UseId.{UseId}
-use Rattle.aeth_server.specs.ChannelShape.{IsShapeInRange}
-use Rattle.aeth_server.specs.declared.shape.ChannelShape.{ChannelShape}
+use Rattle.std.specs.List.{All}
+use Rattle.aeth_base.specs.declared.ids.{Channel.Channel, UseId.UseId}
+use Rattle.aeth_server.specs.{ChannelShape.IsShapeInRange, declared.shape.ChannelShape.ChannelShape}
 use Rattle.aeth_group.specs.Members.{GroupsData, groups_of, is_kept}
 use Rattle.aeth_ni.specs.declared.row.ChannelRow.{ChannelRow}
-use Rattle.aeth_trace.specs.Spans.{SpanData}
-use Rattle.aeth_trace.specs.Words.{words_on}
-use Rattle.aeth_trace.specs.declared.switches.SwitchRow.{SwitchRow}
-use Rattle.aeth_trace.specs.declared.words.WordRow.{WordRow}
+use Rattle.aeth_trace.specs.{Spans.SpanData, Words.words_on, declared.switches.SwitchRow.SwitchRow}
+use Rattle.aeth_trace.specs.{declared.words.WordRow.WordRow}
 use Rattle.aeth_trace.proofs.OrderLemmas.{until_few}
-use Rattle.aeth_report.specs.Flows.{close_at}
-use Rattle.aeth_report.specs.Sessions.{Switch, go_of}
-use Rattle.aeth_report.specs.declared.session.Close.{Close}
-use Rattle.aeth_tables.specs.Tables.{tables_of}
-use Rattle.aeth_tables.proofs.PromiseLaws.{keep_promises}
+use Rattle.aeth_report.specs.{Flows.close_at, Sessions.Switch, Sessions.go_of}
+use Rattle.aeth_report.specs.{declared.session.Close.Close}
+use Rattle.aeth_tables.{specs.Tables.tables_of, proofs.PromiseLaws.keep_promises}
 use Rattle.aeth_accepted.specs.Inputs.{AreAccepted, Inputs, run_of}
-use Rattle.aeth_schedule.specs.Goings.{going_by, going_with, goings_behind, goings_from, goings_of}
-use Rattle.aeth_schedule.specs.Goings.{session_by}
-use Rattle.aeth_schedule.specs.Lines.{all_lines, changed_lines, line_with, lines_at, lines_of}
-use Rattle.aeth_schedule.specs.Lines.{lines_with}
-use Rattle.aeth_schedule.specs.Values.{before_of}
-use Rattle.aeth_schedule.specs.declared.going.Going.{Going}
-use Rattle.aeth_schedule.specs.declared.lines.Line.{Line}
+use Rattle.aeth_schedule.specs.{Goings.going_by, Goings.going_with, Goings.goings_behind}
+use Rattle.aeth_schedule.specs.{Goings.goings_from, Goings.goings_of, Goings.session_by}
+use Rattle.aeth_schedule.specs.{Lines.all_lines, Lines.changed_lines, Lines.line_with}
+use Rattle.aeth_schedule.specs.{Lines.lines_at, Lines.lines_of, Lines.lines_with, Values.before_of}
+use Rattle.aeth_schedule.specs.{declared.going.Going.Going, declared.lines.Line.Line}
 use Rattle.aeth_network.specs.Records.{IsFresh}
 
 -- What holds of the sessions of all lines holds of those that rows open.

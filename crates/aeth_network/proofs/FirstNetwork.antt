@@ -1,57 +1,40 @@
 -- What holds of the network of accepted inputs before its first cycle.
-use Rattle.std.proofs.Common.{◌≡◌, ◌≤◌, ◌<◌, ◌*◌, ◌∙◌, ◌^◌, ℕ, List, [], ◌∷◌}
-use Rattle.std.proofs.Common.{ap, arith}
-use Rattle.std.proofs.Common.{drop, filter, length, map, nat_lt, refl, subst, sym}
+use Rattle.std.proofs.Common.{◌≡◌, ◌≤◌, ◌<◌, ◌*◌, ◌∙◌, ◌^◌, ℕ, List, [], ◌∷◌, ap, arith, drop}
+use Rattle.std.proofs.Common.{filter, length, map, nat_lt, refl, subst, sym, flat_map}
+use Rattle.std.proofs.Common.{length-append, length-drop}
+use Rattle.std.proofs.lemmas.List.{length-map, length-replicate, Elements.All-nil}
+use Rattle.std.proofs.lemmas.List.{Elements.All-weaker, FromFn.length-map-range_with_len}
+use Rattle.std.proofs.lemmas.List.{Sums.count_by-le-length, Sums.length-filter}
 use Rattle.std.specs.List.{All, range_with_len}
-use Rattle.std.specs.Prelude.{flat_map}
-use Rattle.std.proofs.lemmas.List.{length-append, length-drop, length-map}
-use Rattle.std.proofs.lemmas.List.{length-replicate}
-use Rattle.std.proofs.lemmas.List.Elements.{All-nil, All-weaker}
-use Rattle.std.proofs.lemmas.List.FromFn.{length-map-range_with_len}
-use Rattle.std.proofs.lemmas.List.Sums.{count_by-le-length, length-filter}
 use Rattle.aeth_app.specs.Limits.{max_connections}
 use Rattle.aeth_base.specs.declared.ids.Channel.{Channel}
 use Rattle.aeth_base.specs.declared.ids.Side.TheVariants.{Back, Fwd}
-use Rattle.aeth_trace.specs.Limits.{max_rows}
-use Rattle.aeth_trace.specs.Words.{words_on}
-use Rattle.aeth_trace.specs.declared.words.WordRow.{WordRow}
-use Rattle.aeth_report.specs.Channels.{channels_of}
-use Rattle.aeth_components.specs.Components.{frames_of}
-use Rattle.aeth_components.specs.Events.{IsDoable}
-use Rattle.aeth_components.specs.Frames.{Frame, frame_of}
-use Rattle.aeth_components.specs.Making.{new_parts}
-use Rattle.aeth_report.specs.Log.{LogData}
-use Rattle.aeth_components.specs.Lanes.{IsLane}
+use Rattle.aeth_trace.specs.{Limits.max_rows, Words.words_on, declared.words.WordRow.WordRow}
+use Rattle.aeth_report.specs.{Channels.channels_of, Log.LogData}
+use Rattle.aeth_components.specs.{Components.frames_of, Events.IsDoable, Frames.Frame}
+use Rattle.aeth_components.specs.{Frames.frame_of, Making.new_parts, Lanes.IsLane}
+use Rattle.aeth_components.specs.{declared.making.RouterKind.RouterKind}
 use Rattle.aeth_components.proofs.KindLemmas.{frames-kind}
-use Rattle.aeth_components.specs.declared.making.RouterKind.{RouterKind}
 use Rattle.aeth_accepted.specs.Inputs.{AreAccepted, Inputs}
-use Rattle.aeth_schedule.specs.Goings.{goings_of}
-use Rattle.aeth_schedule.specs.Rooms.{rooms_of}
-use Rattle.aeth_schedule.specs.Switching.{loaded_of}
-use Rattle.aeth_schedule.specs.Values.{values_of, values_on, values_with}
-use Rattle.aeth_schedule.specs.declared.going.Going.{Going}
+use Rattle.aeth_schedule.{specs.Goings.goings_of, specs.Rooms.rooms_of, specs.Switching.loaded_of}
+use Rattle.aeth_schedule.{specs.Values.values_of, specs.Values.values_on, specs.Values.values_with}
+use Rattle.aeth_schedule.{specs.declared.going.Going.Going, proofs.Places.on-few}
 use Rattle.aeth_running.specs.FirstLog.{first_channel, first_log}
-use Rattle.aeth_running.proofs.PlayedTables.{later-order}
 use Rattle.aeth_running.specs.Network.{first_network, routed_components}
 use Rattle.aeth_running.specs.Routing.{ByHeaders, Entering, IsRoutingFor, Routing, later_rows}
+use Rattle.aeth_running.proofs.PlayedTables.{later-order}
 use Rattle.aeth_stimuli.specs.Loaded.{loaded_components, no_lane}
 use Rattle.aeth_stimuli.specs.Stimuli.{AreStimuli, Offer, Stimuli, Take, offer_of, stimuli_of}
-use Rattle.aeth_network.specs.Behind.{passed}
-use Rattle.aeth_network.specs.Cursors.{AreCursors}
-use Rattle.aeth_network.specs.First.{IsFirstState}
-use Rattle.aeth_network.specs.Networks.{IsNetwork, network_of}
-use Rattle.aeth_network.specs.declared.given.Cursors.{Cursors}
-use Rattle.aeth_network.specs.declared.state.State.{State}
-use Rattle.aeth_network.specs.Records.{IsFresh}
-use Rattle.aeth_network.proofs.FirstComponents.{AreFit-none, HaveCounts-none, IsComponents-loaded}
-use Rattle.aeth_network.proofs.FirstComponents.{few-parts, loaded-frames, loaded-size}
-use Rattle.aeth_network.proofs.FewGoings.{goings-few}
-use Rattle.aeth_schedule.proofs.Places.{on-few}
-use Rattle.aeth_network.proofs.FewGoings.{over-two}
-use Rattle.aeth_network.proofs.FirstGoings.{fresh-goings}
-use Rattle.aeth_network.proofs.Passed.{passed-first}
-use Rattle.aeth_network.proofs.QuietPlaces.{quiet-first}
-use Rattle.aeth_network.proofs.WindowLemmas.{over-none}
+use Rattle.aeth_network.specs.{Behind.passed, Cursors.AreCursors, First.IsFirstState}
+use Rattle.aeth_network.specs.{Networks.IsNetwork, Networks.network_of}
+use Rattle.aeth_network.specs.{declared.given.Cursors.Cursors, declared.state.State.State}
+use Rattle.aeth_network.specs.{Records.IsFresh}
+use Rattle.aeth_network.proofs.{FirstComponents.AreFit-none, FirstComponents.HaveCounts-none}
+use Rattle.aeth_network.proofs.{FirstComponents.IsComponents-loaded, FirstComponents.few-parts}
+use Rattle.aeth_network.proofs.{FirstComponents.loaded-frames, FirstComponents.loaded-size}
+use Rattle.aeth_network.proofs.{FewGoings.goings-few, FewGoings.over-two, FirstGoings.fresh-goings}
+use Rattle.aeth_network.proofs.{Passed.passed-first, QuietPlaces.quiet-first}
+use Rattle.aeth_network.proofs.{WindowLemmas.over-none}
 
 -- The channels of connections have no more words than twice so often the most rows.
 with-few : (words : List WordRow) (c : ℕ) → length (values_with words c) ≤ 2 * length words

@@ -1,12 +1,10 @@
 -- First cycles of stretches, and rows of which none is of a cycle.
-use Rattle.std.proofs.Common.{◌≡◌, ◌≤◌, ◌<◌, ◌⊎◌, ◌+◌, ◌-◌, ◌==◌, ◌++◌, ◌∙◌, ℕ, List, [], ◌∷◌}
-use Rattle.std.proofs.Common.{ap, arith, drop, drop-drop, filter, fold, get_or, inl, inr, length}
-use Rattle.std.proofs.Common.{refl, sym, take, take-add}
-use Rattle.std.specs.Prelude.{slice_range}
+use Rattle.std.proofs.Common.{◌≡◌, ◌≤◌, ◌<◌, ◌⊎◌, ◌+◌, ◌-◌, ◌==◌, ◌++◌, ◌∙◌, ℕ, List, [], ◌∷◌, ap}
+use Rattle.std.proofs.Common.{arith, drop, drop-drop, filter, fold, get_or, inl, inr, length, refl}
+use Rattle.std.proofs.Common.{sym, take, take-add, slice_range, eq-eqb, eqb-true}
+use Rattle.std.proofs.lemmas.{Bool.cases_lt, List.Sums.fold-append, Option.get_or_from_slice_get}
+use Rattle.std.proofs.lemmas.{Option.slice_get-get_or, Option.slice_get_within}
 use Rattle.std.specs.List.Sorted.{IsNonDecreasingBy}
-use Rattle.std.proofs.lemmas.Bool.{cases_lt, eq-eqb, eqb-true}
-use Rattle.std.proofs.lemmas.List.Sums.{fold-append}
-use Rattle.std.proofs.lemmas.Option.{get_or_from_slice_get, slice_get-get_or, slice_get_within}
 use Rattle.aeth_base.proofs.Members.{Contains-slice_get, slice_get-Contains}
 use Rattle.aeth_running.proofs.StillRows.{kept-none, none-kept}
 use Rattle.aeth_components.specs.First.{IsFirst}

@@ -1,27 +1,21 @@
 -- Channels have room for the words that are coming, from one change to the next.
-use Rattle.std.proofs.Common.{◌≡◌, ◌≤◌, ◌<◌, ◌+◌, ◌&&◌, ◌++◌, ◌∙◌, ℕ, true}
-use Rattle.std.proofs.Common.{List, [], ◌∷◌, ap, arith, drop, fold, get_or, inl, inr}
-use Rattle.std.proofs.Common.{subst, take, length, nat_lt, refl}
-use Rattle.std.proofs.Common.{sym, length-set}
-use Rattle.std.proofs.Common.{◌^◌}
-use Rattle.std.proofs.Common.{get_or-set_other, get_or-set_same}
-use Rattle.std.specs.Prelude.{All, count_by, slice_index}
-use Rattle.std.proofs.lemmas.Bool.{cases_Bool}
-use Rattle.std.proofs.lemmas.Bool.Decides.{nat_tests}
-use Rattle.std.proofs.lemmas.List.Elements.{All-head, All-tail, All-set}
-use Rattle.std.proofs.lemmas.List.Elements.{All-take, All-weaker}
-use Rattle.std.proofs.lemmas.List.{drop_more, length-drop, take-append-drop}
-use Rattle.std.proofs.lemmas.Option.{slice_get_within}
-use Rattle.aeth_components.specs.Lanes.{IsLane}
-use Rattle.aeth_components.specs.declared.lane.Lane.{Lane}
-use Rattle.aeth_running.specs.Network.{accepted_with, gone_with, outside_with, taking_with, until_with}
+use Rattle.std.proofs.Common.{◌≡◌, ◌≤◌, ◌<◌, ◌+◌, ◌&&◌, ◌++◌, ◌∙◌, ℕ, true, List, [], ◌∷◌, ap}
+use Rattle.std.proofs.Common.{arith, drop, fold, get_or, inl, inr, subst, take, length, nat_lt}
+use Rattle.std.proofs.Common.{refl, sym, length-set, ◌^◌, get_or-set_other, get_or-set_same, All}
+use Rattle.std.proofs.Common.{count_by, slice_index, length-drop, take-append-drop}
+use Rattle.std.proofs.lemmas.{Bool.cases_Bool, Bool.Decides.nat_tests, List.Elements.All-head}
+use Rattle.std.proofs.lemmas.{List.Elements.All-tail, List.Elements.All-set, List.Elements.All-take}
+use Rattle.std.proofs.lemmas.{List.Elements.All-weaker, List.drop_more, Option.slice_get_within}
+use Rattle.aeth_components.specs.{Lanes.IsLane, declared.lane.Lane.Lane}
+use Rattle.aeth_components.proofs.LaneLemmas.{each-with_lane, length-with_lane}
+use Rattle.aeth_running.specs.Network.{accepted_with, gone_with, outside_with, taking_with}
+use Rattle.aeth_running.specs.Network.{until_with}
 use Rattle.aeth_stimuli.specs.Stimuli.{Offer, Take, is_over}
 use Rattle.aeth_schedule.specs.declared.going.Going.{Going}
 use Rattle.aeth_trace.specs.Channels.{channel_number}
 use Rattle.aeth_network.specs.Fits.{AreFit, HaveCounts, IsFit, is_accepted}
-use Rattle.aeth_base.proofs.Lists.{count_by-yes}
 use Rattle.aeth_network.proofs.CountLemmas.{count-cons, count-weaker}
-use Rattle.aeth_components.proofs.LaneLemmas.{each-with_lane, length-with_lane}
+use Rattle.aeth_base.proofs.Lists.{count_by-yes}
 
 module _ (words parts : ℕ) where
   -- A word that comes is accepted by its channel, or it is outside of all.

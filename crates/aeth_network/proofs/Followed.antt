@@ -1,8 +1,8 @@
 -- Sessions that go one by one: how many have gone of each channel, and what is told of them.
-use Rattle.std.proofs.Common.{◌≡◌, ◌≢◌, ◌≤◌, ◌<◌, ◌+◌, ◌++◌, ◌∙◌, ℕ, List, [], ap, arith}
-use Rattle.std.proofs.Common.{drop, false, get_or, length, set, sym, take, true}
-use Rattle.std.proofs.lemmas.Bool.{eq-eqb, ne_eqb}
-use Rattle.std.proofs.lemmas.List.{length-take, length_push}
+use Rattle.std.proofs.Common.{◌≡◌, ◌≢◌, ◌≤◌, ◌<◌, ◌+◌, ◌++◌, ◌∙◌, ℕ, List, [], ap, arith, drop}
+use Rattle.std.proofs.Common.{false, get_or, length, set, sym, take, true, eq-eqb, ne_eqb}
+use Rattle.std.proofs.Common.{length-take}
+use Rattle.std.proofs.lemmas.List.{length_push}
 use Rattle.aeth_trace.specs.Channels.{channel_number}
 use Rattle.aeth_report.specs.Log.{ChannelData, SessionData}
 use Rattle.aeth_components.specs.declared.lane.Lane.{Lane}

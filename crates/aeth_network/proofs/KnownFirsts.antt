@@ -1,8 +1,7 @@
 -- First cycles of what is known, from part to part.
 use Rattle.std.proofs.Common.{◌≡◌, ◌≤◌, ◌<◌, ◌⊎◌, ◌∙◌, ℕ, List, Some, ap, arith, get_or, inl, inr}
 use Rattle.std.proofs.Common.{slice_get, subst, sym}
-use Rattle.std.proofs.lemmas.Bool.{cases_lt}
-use Rattle.std.proofs.lemmas.Option.{get_or_from_slice_get}
+use Rattle.std.proofs.lemmas.{Bool.cases_lt, Option.get_or_from_slice_get}
 use Rattle.aeth_components.specs.First.{IsFirst}
 use Rattle.aeth_network.specs.Next.{IsFirstKnown}
 

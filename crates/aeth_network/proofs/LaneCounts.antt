@@ -1,10 +1,8 @@
 -- Channels and their limits are as many as before, whatever changes.
-use Rattle.std.proofs.Common.{◌≡◌, ◌∙◌, ℕ, List, [], ◌∷◌, ap, fold, length, length-set}
-use Rattle.std.proofs.Common.{refl}
+use Rattle.std.proofs.Common.{◌≡◌, ◌∙◌, ℕ, List, [], ◌∷◌, ap, fold, length, length-set, refl}
 use Rattle.aeth_trace.specs.Channels.{channel_number}
 use Rattle.aeth_components.proofs.LaneLemmas.{length-with_lane}
-use Rattle.aeth_components.specs.Components.{ComponentsState}
-use Rattle.aeth_components.specs.declared.lane.Lane.{Lane}
+use Rattle.aeth_components.specs.{Components.ComponentsState, declared.lane.Lane.Lane}
 use Rattle.aeth_schedule.specs.declared.going.Going.{Going}
 use Rattle.aeth_running.proofs.LaneLookups.{length-offered}
 use Rattle.aeth_running.specs.Network.{accepted_with, gone_with, taking_with, until_with}

@@ -1,12 +1,10 @@
 -- Channels that change one by one.
-use Rattle.std.proofs.Common.{◌≡◌, ◌<◌, ◌+◌, ◌∙◌, ℕ, zero, suc, List, [], ◌∷◌, ap, arith}
-use Rattle.std.proofs.Common.{get_or, length, refl, nat_lt, subst, true}
-use Rattle.std.specs.Prelude.{slice_index}
+use Rattle.std.proofs.Common.{◌≡◌, ◌<◌, ◌+◌, ◌∙◌, ℕ, zero, suc, List, [], ◌∷◌, ap, arith, get_or}
+use Rattle.std.proofs.Common.{length, refl, nat_lt, subst, true, slice_index}
 use Rattle.std.proofs.lemmas.Bool.Decides.{nat_tests}
 use Rattle.aeth_running.specs.Network.{accepted_with}
 use Rattle.aeth_stimuli.specs.Stimuli.{Offer}
-use Rattle.aeth_components.specs.Lanes.{with_lane}
-use Rattle.aeth_components.specs.declared.lane.Lane.{Lane}
+use Rattle.aeth_components.specs.{Lanes.with_lane, declared.lane.Lane.Lane}
 
 -- A channel without anything.
 abbrev pub empty : Lane

@@ -1,15 +1,12 @@
 -- Rows that are made of others, and their places.
-use Rattle.std.proofs.Common.{◌≡◌, ◌+◌, ◌-◌, ◌==◌, ◌∙◌, ℕ, List, ap, arith}
-use Rattle.std.proofs.Common.{drop, filter, length, map, nat_lt, subst, sym, take}
-use Rattle.std.specs.Prelude.{slice_range}
-use Rattle.std.specs.List.{zip}
-use Rattle.std.specs.List.Sorted.{IsNonDecreasing, IsNonDecreasingBy}
+use Rattle.std.proofs.Common.{◌≡◌, ◌+◌, ◌-◌, ◌==◌, ◌∙◌, ℕ, List, ap, arith, drop, filter, length}
+use Rattle.std.proofs.Common.{map, nat_lt, subst, sym, take, slice_range}
 use Rattle.std.proofs.lemmas.List.{drop-map, get_or-map, length-map, take-map}
 use Rattle.std.proofs.lemmas.Slice.Zip.{firsts-zip, seconds-zip}
+use Rattle.std.specs.List.{zip, Sorted.IsNonDecreasing, Sorted.IsNonDecreasingBy}
 use Rattle.aeth_base.proofs.Filters.{filter-map}
 use Rattle.aeth_components.specs.declared.event.Event.{Event}
-use Rattle.aeth_network.specs.Behind.{IsBehind, passed}
-use Rattle.aeth_network.proofs.Passed.{passed-range}
+use Rattle.aeth_network.{specs.Behind.IsBehind, specs.Behind.passed, proofs.Passed.passed-range}
 
 -- A part of a list whose elements are changed.
 pub range-map : {X Y : Type 0} (f : X → Y) (xs : List X) (from to : ℕ)

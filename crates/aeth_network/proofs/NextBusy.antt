@@ -1,45 +1,33 @@
 -- The next cycle in which something happens, out of what is given and how the network stands.
-use Rattle.std.proofs.Common.{◌≡◌, ◌≤◌, ◌<◌, ◌⊎◌, ◌↔◌, ◌+◌, ◌-◌, ◌*◌, ◌∙◌, ℕ, zero, suc, All, List, []}
-use Rattle.std.proofs.Common.{None, Some, ap, arith, drop, false, fold, inl, inr, length}
-use Rattle.std.proofs.Common.{refl, slice_get, subst, sym, true}
-use Rattle.std.specs.Prelude.{replicate}
+use Rattle.std.proofs.Common.{◌≡◌, ◌≤◌, ◌<◌, ◌⊎◌, ◌↔◌, ◌+◌, ◌-◌, ◌*◌, ◌∙◌, ℕ, zero, suc, All, List}
+use Rattle.std.proofs.Common.{[], None, Some, ap, arith, drop, false, fold, inl, inr, length, refl}
+use Rattle.std.proofs.Common.{slice_get, subst, sym, true, replicate}
 use Rattle.std.proofs.lemmas.Bool.{cases_Bool, cases_lt}
-use Rattle.std.proofs.lemmas.List.{get_or-replicate, length-replicate}
-use Rattle.std.proofs.lemmas.List.Elements.{All-weaker}
+use Rattle.std.proofs.lemmas.List.{get_or-replicate, length-replicate, Elements.All-weaker}
 use Rattle.std.proofs.lemmas.Option.{get_or_from_slice_get, slice_get_within}
 use Rattle.aeth_base.proofs.Members.{All-slice_get}
 use Rattle.aeth_clocked.specs.Wires.{flit_on}
 use Rattle.aeth_router.specs.declared.part.Part.{Part}
 use Rattle.aeth_tables.proofs.ListLaws.{all_from_places}
-use Rattle.aeth_components.specs.First.{HasSender, IsFirst}
-use Rattle.aeth_components.specs.Lanes.{is_open}
-use Rattle.aeth_components.specs.Phases.{asked_of}
-use Rattle.aeth_components.specs.Turns.{sends_own}
-use Rattle.aeth_components.specs.declared.lane.Lane.{Lane}
+use Rattle.aeth_components.specs.{First.HasSender, First.IsFirst, Lanes.is_open, Phases.asked_of}
+use Rattle.aeth_components.specs.{Turns.sends_own, declared.lane.Lane.Lane}
 use Rattle.aeth_accepted.specs.Inputs.{Inputs, run_of}
 use Rattle.aeth_schedule.specs.Windows.{IsWithin}
-use Rattle.aeth_schedule.specs.declared.going.Going.{Going}
-use Rattle.aeth_schedule.specs.declared.windows.Window.{Window}
-use Rattle.aeth_stimuli.specs.Loaded.{no_lane}
-use Rattle.aeth_stimuli.specs.Stimuli.{Offer, Stimuli, Take}
-use Rattle.aeth_running.proofs.Played.{played-stimuli as first-stimuli}
-use Rattle.aeth_running.proofs.StillGoings.{no-goings}
-use Rattle.aeth_running.proofs.StillRows.{no-switches}
-use Rattle.aeth_running.specs.Idle.{IsIdle, IsNextBusyOf}
-use Rattle.aeth_running.specs.Network.{NetworkState, accepted_with, first_network, gone_with}
-use Rattle.aeth_running.specs.Network.{goings_in, offers_in, played, stepped, untils_in}
-use Rattle.aeth_running.specs.Routing.{Routing}
-use Rattle.aeth_running.specs.Quiet.{AreStill, IsNextBusy, IsQuiet, ready_lanes}
-use Rattle.aeth_running.specs.Still.{IsStill}
-use Rattle.aeth_network.specs.Behind.{passed}
-use Rattle.aeth_network.specs.Networks.{IsNetwork}
-use Rattle.aeth_network.specs.Next.{HasAsker, HasOffer, HasWindow}
-use Rattle.aeth_network.specs.Runs.{IsNetworkOf}
-use Rattle.aeth_network.proofs.Firsts.{not-empty}
-use Rattle.aeth_network.proofs.Playing.{cycles-of}
-use Rattle.aeth_network.proofs.RestingLanes.{asks-first, asks-seen, begun, gone-landed, seen-asks}
-use Rattle.aeth_network.proofs.Ready.{ways-are}
-use Rattle.aeth_network.proofs.FitLemmas.{HasWay}
+use Rattle.aeth_schedule.specs.declared.{going.Going.Going, windows.Window.Window}
+use Rattle.aeth_stimuli.specs.{Loaded.no_lane, Stimuli.Offer, Stimuli.Stimuli, Stimuli.Take}
+use Rattle.aeth_running.proofs.{Played.played-stimuli as first-stimuli, StillGoings.no-goings}
+use Rattle.aeth_running.proofs.{StillRows.no-switches}
+use Rattle.aeth_running.specs.{Idle.IsIdle, Idle.IsNextBusyOf, Network.NetworkState}
+use Rattle.aeth_running.specs.{Network.accepted_with, Network.first_network, Network.gone_with}
+use Rattle.aeth_running.specs.{Network.goings_in, Network.offers_in, Network.played}
+use Rattle.aeth_running.specs.{Network.stepped, Network.untils_in, Routing.Routing, Quiet.AreStill}
+use Rattle.aeth_running.specs.{Quiet.IsNextBusy, Quiet.IsQuiet, Quiet.ready_lanes, Still.IsStill}
+use Rattle.aeth_network.specs.{Behind.passed, Networks.IsNetwork, Next.HasAsker, Next.HasOffer}
+use Rattle.aeth_network.specs.{Next.HasWindow, Runs.IsNetworkOf}
+use Rattle.aeth_network.proofs.{Firsts.not-empty, Playing.cycles-of, RestingLanes.asks-first}
+use Rattle.aeth_network.proofs.{RestingLanes.asks-seen, RestingLanes.begun}
+use Rattle.aeth_network.proofs.{RestingLanes.gone-landed, RestingLanes.seen-asks, Ready.ways-are}
+use Rattle.aeth_network.proofs.{FitLemmas.HasWay}
 
 -- So many cycles behind so many.
 pub played-sum : (j t : ℕ) (all : NetworkState) → played j (played t all) ≡ played (t + j) all

@@ -1,15 +1,14 @@
 -- Rows whose cycles don't fall: those before a cycle come first, and those of a cycle next to them.
-use Rattle.std.proofs.Common.{◌≡◌, ◌<◌, ◌≤◌, ◌↔◌, ◌+◌, ◌-◌, ◌==◌, ◌∙◌, ℕ, Bool, zero, suc}
-use Rattle.std.proofs.Common.{length, take, drop, filter, refl, ap, arith, inl, inr, nat_lt, true}
-use Rattle.std.proofs.Common.{List, [], ◌∷◌, Some, false, get_or, slice_get, sym}
-use Rattle.std.specs.Prelude.{All, IsTrue, slice_range}
-use Rattle.std.specs.List.Sorted.{IsNonDecreasingBy}
-use Rattle.std.proofs.lemmas.Bool.{cases_lt, lt-ltb}
-use Rattle.std.proofs.lemmas.Bool.Decides.{nat_tests}
+use Rattle.std.proofs.Common.{◌≡◌, ◌<◌, ◌≤◌, ◌↔◌, ◌+◌, ◌-◌, ◌==◌, ◌∙◌, ℕ, Bool, zero, suc, length}
+use Rattle.std.proofs.Common.{take, drop, filter, refl, ap, arith, inl, inr, nat_lt, true, List, []}
+use Rattle.std.proofs.Common.{◌∷◌, Some, false, get_or, slice_get, sym, All, IsTrue, slice_range}
+use Rattle.std.proofs.Common.{lt-ltb}
+use Rattle.std.proofs.lemmas.Bool.{cases_lt, Decides.nat_tests}
 use Rattle.std.proofs.lemmas.List.Elements.{All-cons, All-head, All-nil, All-tail, All-weaker}
 use Rattle.std.proofs.lemmas.List.Elements.{All-get_or}
 use Rattle.std.proofs.lemmas.List.Sums.{length-filter, count_by-le-length}
 use Rattle.std.proofs.lemmas.Option.{get_or_from_slice_get, slice_get_within}
+use Rattle.std.specs.List.Sorted.{IsNonDecreasingBy}
 use Rattle.aeth_trace.proofs.OrderLemmas.{first_least, later_rise}
 use Rattle.aeth_network.specs.Behind.{IsBehind, passed}
 

@@ -3,16 +3,12 @@ use Rattle.std.proofs.Common.{◌≡◌, ◌≤◌, ◌<◌, ◌+◌, ◌-◌, �
 use Rattle.std.proofs.Common.{refl, subst, sym}
 use Rattle.aeth_report.specs.Log.{LogData}
 use Rattle.aeth_accepted.specs.Inputs.{AreAccepted, Inputs}
-use Rattle.aeth_schedule.specs.Rooms.{rooms_of}
-use Rattle.aeth_schedule.specs.Switching.{loaded_of}
-use Rattle.aeth_schedule.specs.Values.{values_of}
+use Rattle.aeth_schedule.specs.{Rooms.rooms_of, Switching.loaded_of, Values.values_of}
 use Rattle.aeth_running.proofs.Played.{stepped-log, stepped-routing, stepped-time}
-use Rattle.aeth_running.specs.Lossless.{LosesNothing}
-use Rattle.aeth_running.specs.Network.{NetworkState, first_network, played, stepped}
-use Rattle.aeth_running.specs.Routing.{IsRoutingFor, Routing}
-use Rattle.aeth_running.specs.Told.{network_log, told}
-use Rattle.aeth_network.specs.Runs.{IsNetworkOf}
-use Rattle.aeth_network.proofs.FirstComponents.{loaded-size}
+use Rattle.aeth_running.specs.{Lossless.LosesNothing, Network.NetworkState, Network.first_network}
+use Rattle.aeth_running.specs.{Network.played, Network.stepped, Routing.IsRoutingFor}
+use Rattle.aeth_running.specs.{Routing.Routing, Told.network_log, Told.told}
+use Rattle.aeth_network.{specs.Runs.IsNetworkOf, proofs.FirstComponents.loaded-size}
 
 -- No cycle, and one more.
 pub played-none : (cycles : ℕ) (old : NetworkState) → cycles ≡ 0 → played cycles old ≡ old

@@ -1,22 +1,15 @@
 -- How many words a receiver takes, from row to row.
 use Rattle.std.proofs.Common.{◌≡◌, ◌≤◌, ◌<◌, ◌⊎◌, ◌+◌, ◌-◌, ◌==◌, ◌∙◌, ℕ, List, [], ◌∷◌, ap, arith}
-use Rattle.std.proofs.Common.{drop, false, get_or, inl, inr, length, max, min, refl, sym, take, true}
-use Rattle.std.specs.Prelude.{slice_range}
+use Rattle.std.proofs.Common.{drop, false, get_or, inl, inr, length, max, min, refl, sym, take}
+use Rattle.std.proofs.Common.{true, slice_range}
+use Rattle.std.proofs.lemmas.Bool.{cases_lt, Decides.nat_tests}
+use Rattle.std.proofs.lemmas.List.{drop_more, Sums.fold-append}
 use Rattle.std.specs.List.Sorted.{IsNonDecreasingBy}
-use Rattle.std.proofs.lemmas.Bool.{cases_lt}
-use Rattle.std.proofs.lemmas.Bool.Decides.{nat_tests}
-use Rattle.std.proofs.lemmas.List.{drop_more}
-use Rattle.std.proofs.lemmas.List.Sums.{fold-append}
-use Rattle.aeth_components.specs.First.{IsFirst}
-use Rattle.aeth_components.specs.Lanes.{is_open}
-use Rattle.aeth_components.specs.declared.lane.Lane.{Lane}
+use Rattle.aeth_components.specs.{First.IsFirst, Lanes.is_open, declared.lane.Lane.Lane}
 use Rattle.aeth_stimuli.specs.Stimuli.{Take}
-use Rattle.aeth_network.specs.Behind.{passed}
-use Rattle.aeth_network.specs.Next.{AsksIn, pull_behind}
-use Rattle.aeth_network.proofs.Firsts.{slice-append}
-use Rattle.aeth_network.proofs.KnownFirsts.{first-of, known-none}
-use Rattle.aeth_network.proofs.Passed.{passed-at}
-use Rattle.aeth_network.proofs.RestingLanes.{passed-rises}
+use Rattle.aeth_network.specs.{Behind.passed, Next.AsksIn, Next.pull_behind}
+use Rattle.aeth_network.proofs.{Firsts.slice-append, KnownFirsts.first-of, KnownFirsts.known-none}
+use Rattle.aeth_network.proofs.{Passed.passed-at, RestingLanes.passed-rises}
 
 -- The cycle of a row.
 abbrev pub cycle_of : Take → ℕ

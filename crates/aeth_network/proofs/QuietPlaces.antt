@@ -1,23 +1,15 @@
 -- Places behind which nothing but words comes before a cycle.
-use Rattle.std.proofs.Common.{◌≡◌, ◌≤◌, ◌<◌, ◌+◌, ◌-◌, ◌==◌, ◌∙◌, ℕ, List, [], ap, arith, drop, filter}
-use Rattle.std.proofs.Common.{sym, take}
-use Rattle.std.specs.Prelude.{slice_range}
+use Rattle.std.proofs.Common.{◌≡◌, ◌≤◌, ◌<◌, ◌+◌, ◌-◌, ◌==◌, ◌∙◌, ℕ, List, [], ap, arith, drop}
+use Rattle.std.proofs.Common.{filter, sym, take, slice_range}
 use Rattle.std.specs.List.Sorted.{IsNonDecreasingBy}
 use Rattle.aeth_schedule.specs.declared.going.Going.{Going}
-use Rattle.aeth_stimuli.specs.Stimuli.{Take}
-use Rattle.aeth_stimuli.specs.Events.{events_in}
-use Rattle.aeth_running.specs.Network.{NetworkState}
-use Rattle.aeth_running.specs.Routing.{Entering, later_rows}
-use Rattle.aeth_network.specs.Behind.{passed}
-use Rattle.aeth_network.specs.Brought.{BringsWords}
-use Rattle.aeth_network.specs.Cursors.{AreCursors, AreInOrder}
-use Rattle.aeth_network.specs.declared.given.Cursors.{Cursors}
-use Rattle.aeth_network.proofs.MappedRows.{events-range}
-use Rattle.aeth_network.proofs.Passed.{passed-first, passed-range}
-use Rattle.aeth_network.proofs.Ready.{length-in}
-use Rattle.aeth_network.proofs.RestingLanes.{passed-rises}
-use Rattle.aeth_network.proofs.Skipping.{events-still}
-use Rattle.aeth_network.proofs.WindowLemmas.{over-later}
+use Rattle.aeth_stimuli.specs.{Stimuli.Take, Events.events_in}
+use Rattle.aeth_running.specs.{Network.NetworkState, Routing.Entering, Routing.later_rows}
+use Rattle.aeth_network.specs.{Behind.passed, Brought.BringsWords, Cursors.AreCursors}
+use Rattle.aeth_network.specs.{Cursors.AreInOrder, declared.given.Cursors.Cursors}
+use Rattle.aeth_network.proofs.{MappedRows.events-range, Passed.passed-first, Passed.passed-range}
+use Rattle.aeth_network.proofs.{Ready.length-in, RestingLanes.passed-rises, Skipping.events-still}
+use Rattle.aeth_network.proofs.{WindowLemmas.over-later}
 
 -- As many rows lie before a later cycle, or more.
 pub passed-to : {X : Type 0} (key : X → ℕ) (from to : ℕ) (xs : List X) → from ≤ to

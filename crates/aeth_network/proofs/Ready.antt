@@ -1,34 +1,26 @@
 -- A network while a cycle of it runs.
-use Rattle.std.proofs.Common.{◌≡◌, ◌≤◌, ◌<◌, ◌+◌, ◌-◌, ◌==◌, ◌&&◌, ◌++◌, ◌∙◌, ℕ, Bool, true}
-use Rattle.std.proofs.Common.{List, []}
-use Rattle.std.proofs.Common.{◌∷◌, ap, arith, drop, filter, fold, get_or, inl, inr, length, map, nat_lt}
-use Rattle.std.proofs.Common.{refl, subst, sym}
-use Rattle.std.specs.Prelude.{All, count_by, slice_range}
+use Rattle.std.proofs.Common.{◌≡◌, ◌≤◌, ◌<◌, ◌+◌, ◌-◌, ◌==◌, ◌&&◌, ◌++◌, ◌∙◌, ℕ, Bool, true, List}
+use Rattle.std.proofs.Common.{[], ◌∷◌, ap, arith, drop, filter, fold, get_or, inl, inr, length, map}
+use Rattle.std.proofs.Common.{nat_lt, refl, subst, sym, All, count_by, slice_range, length-drop}
+use Rattle.std.proofs.Common.{length-take}
+use Rattle.std.proofs.lemmas.Bool.{cases_Bool, Decides.nat_tests}
+use Rattle.std.proofs.lemmas.List.{length-map, Elements.All-cons, Elements.All-get_or}
+use Rattle.std.proofs.lemmas.List.{Elements.All-head, Elements.All-map, Elements.All-nil}
+use Rattle.std.proofs.lemmas.List.{Elements.All-tail, Folds.drop_split}
 use Rattle.std.specs.List.{slice_index_or}
-use Rattle.std.proofs.lemmas.Bool.{cases_Bool}
-use Rattle.std.proofs.lemmas.Bool.Decides.{nat_tests}
-use Rattle.std.proofs.lemmas.List.{length-drop, length-map, length-take}
-use Rattle.std.proofs.lemmas.List.Elements.{All-cons, All-get_or, All-head, All-map}
-use Rattle.std.proofs.lemmas.List.Elements.{All-nil, All-tail}
-use Rattle.std.proofs.lemmas.List.Folds.{drop_split}
 use Rattle.aeth_trace.specs.Channels.{channel_number}
-use Rattle.aeth_components.specs.Components.{IsComponents, frames_of}
-use Rattle.aeth_router.specs.declared.part.Part.{Part}
+use Rattle.aeth_components.specs.{Components.IsComponents, Components.frames_of, Entering.with_rows}
+use Rattle.aeth_components.specs.{Frames.Frame, Frames.IsWired, Frames.frame_of, Lanes.IsLane}
 use Rattle.aeth_components.proofs.EnteringLemmas.{frames-entered}
-use Rattle.aeth_components.specs.Entering.{with_rows}
-use Rattle.aeth_components.specs.Frames.{Frame, IsWired, frame_of}
-use Rattle.aeth_components.specs.Lanes.{IsLane}
+use Rattle.aeth_router.specs.declared.part.Part.{Part}
 use Rattle.aeth_schedule.specs.declared.going.Going.{Going}
 use Rattle.aeth_running.proofs.LaneLookups.{length-offered}
-use Rattle.aeth_running.specs.Network.{NetworkState, accepted_with, gone_with, goings_in}
-use Rattle.aeth_running.specs.Network.{offers_in, ready_in}
-use Rattle.aeth_stimuli.specs.Loaded.{no_lane}
-use Rattle.aeth_running.specs.Network.{takes_in, untils_in}
+use Rattle.aeth_running.specs.Network.{NetworkState, accepted_with, gone_with, goings_in, offers_in}
+use Rattle.aeth_running.specs.Network.{ready_in, takes_in, untils_in}
 use Rattle.aeth_running.specs.Routing.{Entering, entered_with, enterings_in}
+use Rattle.aeth_stimuli.specs.Loaded.{no_lane}
 use Rattle.aeth_stimuli.specs.Stimuli.{Offer, is_offered_in, is_over}
-use Rattle.aeth_network.specs.Behind.{passed}
-use Rattle.aeth_network.specs.Networks.{IsNetwork}
-use Rattle.aeth_network.specs.Fits.{AreFit}
+use Rattle.aeth_network.specs.{Behind.passed, Networks.IsNetwork, Fits.AreFit}
 use Rattle.aeth_network.proofs.CycleLemmas.{All-fit}
 use Rattle.aeth_network.proofs.FitLemmas.{AreFit-all_gone, AreFit-offered, AreFit-taking, HasWay}
 use Rattle.aeth_network.proofs.CountLemmas.{count-behind}

@@ -1,27 +1,22 @@
 -- Channels in a stretch of cycles that leave their network: only how their receivers take changes.
-use Rattle.std.proofs.Common.{◌≡◌, ◌≤◌, ◌<◌, ◌+◌, ◌-◌, ◌==◌, ◌∙◌, ℕ, zero, suc, List, [], ◌∷◌, Some, ap}
-use Rattle.std.proofs.Common.{arith, fold, get_or, inl, inr, min, slice_get}
-use Rattle.std.proofs.Common.{sym, true}
-use Rattle.std.specs.Prelude.{All, slice_range}
-use Rattle.std.specs.List.Sorted.{IsNonDecreasingBy}
-use Rattle.std.proofs.lemmas.Bool.{cases_Bool, cases_lt, eq-eqb, eqb-true}
+use Rattle.std.proofs.Common.{◌≡◌, ◌≤◌, ◌<◌, ◌+◌, ◌-◌, ◌==◌, ◌∙◌, ℕ, zero, suc, List, [], ◌∷◌, Some}
+use Rattle.std.proofs.Common.{ap, arith, fold, get_or, inl, inr, min, slice_get, sym, true, All}
+use Rattle.std.proofs.Common.{slice_range, eq-eqb, eqb-true}
+use Rattle.std.proofs.lemmas.Bool.{cases_Bool, cases_lt}
 use Rattle.std.proofs.lemmas.List.Elements.{All-head, All-tail}
 use Rattle.std.proofs.lemmas.Option.{same_Some, slice_get-get_or, slice_get_within}
+use Rattle.std.specs.List.Sorted.{IsNonDecreasingBy}
 use Rattle.aeth_components.proofs.LaneLemmas.{each-with_lane, with_lane-other, with_lane-own}
-use Rattle.aeth_components.specs.Lanes.{is_open}
-use Rattle.aeth_components.specs.Phases.{asked_of}
-use Rattle.aeth_components.specs.declared.lane.Lane.{Lane}
+use Rattle.aeth_components.specs.{Lanes.is_open, Phases.asked_of, declared.lane.Lane.Lane}
 use Rattle.aeth_trace.specs.Channels.{channel_number}
 use Rattle.aeth_schedule.specs.declared.going.Going.{Going}
 use Rattle.aeth_stimuli.specs.Stimuli.{Take}
 use Rattle.aeth_running.specs.Network.{NetworkState, accepted_with, gone_with, goings_in, offers_in}
 use Rattle.aeth_running.specs.Network.{takes_in, taking_with, untils_in}
 use Rattle.aeth_running.specs.Quiet.{ready_lanes}
-use Rattle.aeth_network.specs.Behind.{passed}
-use Rattle.aeth_network.specs.Next.{HasAsker, pull_behind}
-use Rattle.aeth_network.proofs.Firsts.{fold-slices}
-use Rattle.aeth_network.proofs.LaneCounts.{length-taking}
-use Rattle.aeth_network.proofs.Passed.{passed-more, passed-range}
+use Rattle.aeth_network.specs.{Behind.passed, Next.HasAsker, Next.pull_behind}
+use Rattle.aeth_network.proofs.{Firsts.fold-slices, LaneCounts.length-taking, Passed.passed-more}
+use Rattle.aeth_network.proofs.{Passed.passed-range}
 
 -- A row changes how the receiver of its channel takes, and of no other.
 taking-own : (row : Take) (lanes : List Lane) (k : ℕ) (lane : Lane)

@@ -1,11 +1,8 @@
 -- The rows of a session before any word has landed, one by one.
 use Rattle.std.proofs.Common.{◌≡◌, ◌<◌, ◌+◌, ◌∙◌, ◌++◌, ℕ, zero, suc, List, [], ◌∷◌, Some, ap}
-use Rattle.std.proofs.Common.{arith}
-use Rattle.std.proofs.Common.{drop, map, refl, slice_get, sym, take}
+use Rattle.std.proofs.Common.{arith, drop, map, refl, slice_get, sym, take, flat_map, slice_index}
+use Rattle.std.proofs.lemmas.{List.flat_map_more, Option.same_Some}
 use Rattle.std.specs.List.{range_with_len}
-use Rattle.std.specs.Prelude.{flat_map, slice_index}
-use Rattle.std.proofs.lemmas.List.{flat_map_more}
-use Rattle.std.proofs.lemmas.Option.{same_Some}
 use Rattle.aeth_base.proofs.Ranges.{range_with_len-more}
 use Rattle.aeth_report.specs.Channels.{channels_of, channels_with}
 use Rattle.aeth_server.specs.Progress.{Progress, after_word, progress_of}

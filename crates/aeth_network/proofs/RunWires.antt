@@ -3,18 +3,14 @@ use Rattle.std.proofs.Common.{◌≡◌, ◌≤◌, ◌<◌, ◌+◌, ◌∙◌,
 use Rattle.std.proofs.Common.{arith, length, subst, sym}
 use Rattle.std.specs.Option.{option_to_list}
 use Rattle.aeth_base.specs.declared.ids.LinkId.{LinkId}
-use Rattle.aeth_chip.specs.Paths.{delay_of}
-use Rattle.aeth_chip.specs.Wires.{wire_at}
-use Rattle.aeth_clocked.specs.Wires.{flit_on}
-use Rattle.aeth_clocked.specs.declared.flit.Flit.{Flit}
+use Rattle.aeth_chip.specs.{Paths.delay_of, Wires.wire_at}
+use Rattle.aeth_clocked.specs.{Wires.flit_on, declared.flit.Flit.Flit}
 use Rattle.aeth_ni.specs.Component.{Arrival, arrival_of}
 use Rattle.aeth_report.specs.Carries.{carries}
-use Rattle.aeth_refinement.specs.Carried.{IsPassed}
-use Rattle.aeth_refinement.specs.Fabric.{AtRouter}
+use Rattle.aeth_refinement.specs.{Carried.IsPassed, Fabric.AtRouter}
 use Rattle.aeth_accepted.specs.Inputs.{Inputs, run_of}
 use Rattle.aeth_fabric.specs.Fabric.{fabric_of}
-use Rattle.aeth_running.specs.Network.{first_network, played}
-use Rattle.aeth_running.specs.Routing.{Routing}
+use Rattle.aeth_running.specs.{Network.first_network, Network.played, Routing.Routing}
 use Rattle.aeth_network.specs.Runs.{AreWiresOf}
 
 module _ (inputs : Inputs) (routing : Routing) where

@@ -4,10 +4,8 @@ use Rattle.aeth_running.specs.Network.{NetworkState, stepped}
 use Rattle.aeth_network.specs.Cursors.{AreInOrder, routing_with, stimuli_with}
 use Rattle.aeth_network.specs.Networks.{IsNetwork, network_of}
 use Rattle.aeth_network.specs.Runs.{HasInputs}
-use Rattle.aeth_network.specs.declared.network.RoutedNetwork.TheInside.{Inside}
-use Rattle.aeth_network.specs.declared.state.State.{State}
-use Rattle.aeth_network.proofs.Playing.{still-of}
-use Rattle.aeth_network.proofs.Skipping.{IsNetwork-stepped}
+use Rattle.aeth_network.specs.declared.{network.RoutedNetwork.TheInside.Inside, state.State.State}
+use Rattle.aeth_network.proofs.{Playing.still-of, Skipping.IsNetwork-stepped}
 
 -- A network as it is seen, and with another state behind its next cycle.
 abbrev pub seen : Inside → NetworkState

@@ -1,37 +1,29 @@
 -- Networks behind cycles that were passed over.
-use Rattle.std.proofs.Common.{◌≡◌, ◌≤◌, ◌<◌, ◌+◌, ◌-◌, ◌∙◌, ℕ, List, [], ap, arith}
-use Rattle.std.proofs.Common.{fold, refl, subst, sym}
-use Rattle.std.specs.Prelude.{slice_range, vec_capacity}
+use Rattle.std.proofs.Common.{◌≡◌, ◌≤◌, ◌<◌, ◌+◌, ◌-◌, ◌∙◌, ℕ, List, [], ap, arith, fold, refl}
+use Rattle.std.proofs.Common.{subst, sym, slice_range, vec_capacity}
 use Rattle.aeth_components.specs.Components.{ComponentsState}
-use Rattle.aeth_stimuli.specs.Stimuli.{Take}
-use Rattle.aeth_stimuli.specs.Events.{events_in}
-use Rattle.aeth_running.specs.Network.{NetworkState, goings_in, offers_in, played}
-use Rattle.aeth_running.specs.Network.{stepped, takes_in, taking_with}
-use Rattle.aeth_accepted.specs.Inputs.{Inputs}
-use Rattle.aeth_running.proofs.Played.{stepped-log, stepped-time}
-use Rattle.aeth_running.specs.Network.{first_network}
-use Rattle.aeth_running.proofs.StillTables.{still-unentered}
+use Rattle.aeth_stimuli.specs.{Stimuli.Take, Events.events_in}
+use Rattle.aeth_running.specs.Network.{NetworkState, goings_in, offers_in, played, stepped}
+use Rattle.aeth_running.specs.Network.{takes_in, taking_with, first_network}
 use Rattle.aeth_running.specs.Routing.{Routing, enterings_in}
 use Rattle.aeth_running.specs.Quiet.{AreStill, brought_over, rested}
 use Rattle.aeth_running.specs.Still.{IsStill}
-use Rattle.aeth_network.specs.Behind.{passed}
-use Rattle.aeth_network.specs.Cursors.{AreCursors, routing_with, stimuli_with}
-use Rattle.aeth_network.specs.Brought.{IsBrought}
-use Rattle.aeth_network.specs.Networks.{IsNetwork}
-use Rattle.aeth_network.specs.declared.given.CycleRows.{CycleRows}
-use Rattle.aeth_network.specs.declared.given.Cursors.{Cursors}
-use Rattle.aeth_network.specs.declared.state.State.{State}
+use Rattle.aeth_running.proofs.Played.{stepped-log, stepped-time}
+use Rattle.aeth_running.proofs.StillTables.{still-unentered}
+use Rattle.aeth_accepted.specs.Inputs.{Inputs}
+use Rattle.aeth_network.specs.{Behind.passed, Cursors.AreCursors, Cursors.routing_with}
+use Rattle.aeth_network.specs.{Cursors.stimuli_with, Brought.IsBrought, Networks.IsNetwork}
+use Rattle.aeth_network.specs.{declared.given.CycleRows.CycleRows, declared.given.Cursors.Cursors}
+use Rattle.aeth_network.specs.{declared.state.State.State, Runs.HasInputs, Runs.IsNetworkOf}
+use Rattle.aeth_network.specs.{declared.network.RoutedNetwork.TheInside.Inside}
+use Rattle.aeth_network.proofs.{Cycling.over, NextBusy.played-sum, Playing.cycles-of}
+use Rattle.aeth_network.proofs.{Playing.many-of, Playing.played-log, Playing.played-more}
+use Rattle.aeth_network.proofs.{Playing.played-none, Playing.played-time, QuietPlaces.passed-to}
+use Rattle.aeth_network.proofs.{SeenNetworks.Becomes, SeenNetworks.in-order, SeenNetworks.seen}
+use Rattle.aeth_network.proofs.{SeenNetworks.seen_next, Skipping.IsNetwork-played}
+use Rattle.aeth_network.proofs.{Skipping.cursors-behind, Skipping.over-stepped, Skipping.rested-is}
+use Rattle.aeth_network.proofs.{Skipping.rests-as}
 use Rattle.aeth_report.specs.Log.{LogData}
-use Rattle.aeth_network.specs.Runs.{HasInputs, IsNetworkOf}
-use Rattle.aeth_network.specs.declared.network.RoutedNetwork.TheInside.{Inside}
-use Rattle.aeth_network.proofs.Cycling.{over}
-use Rattle.aeth_network.proofs.NextBusy.{played-sum}
-use Rattle.aeth_network.proofs.Playing.{cycles-of, many-of, played-log, played-more, played-none}
-use Rattle.aeth_network.proofs.Playing.{played-time}
-use Rattle.aeth_network.proofs.QuietPlaces.{passed-to}
-use Rattle.aeth_network.proofs.SeenNetworks.{Becomes, in-order, seen, seen_next}
-use Rattle.aeth_network.proofs.Skipping.{IsNetwork-played, cursors-behind, over-stepped}
-use Rattle.aeth_network.proofs.Skipping.{rested-is, rests-as}
 
 -- What the laws of resting say of the network of inputs.
 abbrev RestsOnce : Inputs → Routing → Type 0

@@ -1,37 +1,25 @@
 -- Networks that pass over cycles that leave them.
 use Rattle.std.proofs.Common.{◌≡◌, ◌≤◌, ◌<◌, ◌+◌, ◌-◌, ◌==◌, ◌∙◌, ℕ, zero, suc, List, [], ap, arith}
-use Rattle.std.proofs.Common.{drop, filter, fold, length, refl, subst, sym, take}
-use Rattle.std.specs.Prelude.{slice_range}
+use Rattle.std.proofs.Common.{drop, filter, fold, length, refl, subst, sym, take, slice_range}
+use Rattle.std.proofs.Common.{length-drop, length-take}
 use Rattle.std.specs.List.Sorted.{IsNonDecreasingBy}
-use Rattle.std.proofs.lemmas.List.{length-drop, length-take}
 use Rattle.aeth_components.specs.declared.lane.Lane.{Lane}
 use Rattle.aeth_schedule.specs.declared.going.Going.{Going}
-use Rattle.aeth_stimuli.specs.Stimuli.{Offer, Stimuli, Take}
-use Rattle.aeth_stimuli.specs.Events.{events_in}
-use Rattle.aeth_running.proofs.KeptLanes.{cycle-behind}
+use Rattle.aeth_stimuli.specs.{Stimuli.Offer, Stimuli.Stimuli, Stimuli.Take, Events.events_in}
+use Rattle.aeth_running.proofs.{KeptLanes.cycle-behind, Played.played-next}
 use Rattle.aeth_running.specs.Network.{NetworkState, goings_in, offers_in, played, ready_in}
-use Rattle.aeth_running.specs.Network.{state_behind, stepped, taking_with}
-use Rattle.aeth_accepted.specs.Inputs.{Inputs}
-use Rattle.aeth_running.proofs.Played.{played-next}
-use Rattle.aeth_running.specs.Network.{first_network}
+use Rattle.aeth_running.specs.Network.{state_behind, stepped, taking_with, first_network}
 use Rattle.aeth_running.specs.Routing.{Entering, Routing, enterings_in, later_rows}
 use Rattle.aeth_running.specs.Quiet.{AreStill, brought_over, rested}
 use Rattle.aeth_running.specs.Still.{IsStill, passed_over}
-use Rattle.aeth_network.specs.Behind.{passed}
-use Rattle.aeth_network.specs.Cursors.{AreCursors, AreInOrder}
-use Rattle.aeth_network.specs.Networks.{IsNetwork}
-use Rattle.aeth_network.specs.declared.given.Cursors.{Cursors}
-use Rattle.aeth_network.proofs.MappedRows.{events-range}
-use Rattle.aeth_network.proofs.Firsts.{fold-slices}
-use Rattle.aeth_network.proofs.Passed.{passed-few, passed-more, passed-range}
-use Rattle.aeth_network.specs.Runs.{IsNetworkOf}
-use Rattle.aeth_network.proofs.NextBusy.{played-sum}
-use Rattle.aeth_network.proofs.Playing.{cycles-of}
-use Rattle.aeth_network.proofs.Playing.{played-time}
-use Rattle.aeth_network.proofs.RestingLanes.{passed-rises}
-use Rattle.aeth_network.proofs.Stepping.{IsNetwork-behind, behind-is}
-use Rattle.aeth_network.proofs.Ready.{length-in}
-use Rattle.aeth_network.proofs.WindowLemmas.{over-later}
+use Rattle.aeth_accepted.specs.Inputs.{Inputs}
+use Rattle.aeth_network.specs.{Behind.passed, Cursors.AreCursors, Cursors.AreInOrder}
+use Rattle.aeth_network.specs.{Networks.IsNetwork, declared.given.Cursors.Cursors, Runs.IsNetworkOf}
+use Rattle.aeth_network.proofs.{MappedRows.events-range, Firsts.fold-slices, Passed.passed-few}
+use Rattle.aeth_network.proofs.{Passed.passed-more, Passed.passed-range, NextBusy.played-sum}
+use Rattle.aeth_network.proofs.{Playing.cycles-of, Playing.played-time, RestingLanes.passed-rises}
+use Rattle.aeth_network.proofs.{Stepping.IsNetwork-behind, Stepping.behind-is, Ready.length-in}
+use Rattle.aeth_network.proofs.{WindowLemmas.over-later}
 
 -- What holds of networks holds behind one more cycle, and behind so many.
 pub IsNetwork-stepped : (capacity : ℕ) (old : NetworkState) → IsNetwork capacity old

@@ -1,28 +1,18 @@
 -- A cycle keeps what holds of networks.
-use Rattle.std.proofs.Common.{◌≡◌, ◌<◌, ◌+◌, ◌==◌, ◌++◌, ◌∙◌, ℕ}
-use Rattle.std.proofs.Common.{List}
-use Rattle.std.proofs.Common.{ap, arith, drop, length, map}
-use Rattle.std.proofs.Common.{subst, sym}
-use Rattle.std.specs.Prelude.{All}
+use Rattle.std.proofs.Common.{◌≡◌, ◌<◌, ◌+◌, ◌==◌, ◌++◌, ◌∙◌, ℕ, List, ap, arith, drop, length, map}
+use Rattle.std.proofs.Common.{subst, sym, All, length-append}
+use Rattle.std.proofs.lemmas.List.{length-map, Elements.All-append}
 use Rattle.std.specs.List.{slice_index_or}
-use Rattle.std.proofs.lemmas.List.{length-append, length-map}
-use Rattle.std.proofs.lemmas.List.Elements.{All-append}
 use Rattle.aeth_trace.specs.Channels.{channel_number}
-use Rattle.aeth_components.specs.Components.{ComponentsState, Cycle, frames_of}
-use Rattle.aeth_components.specs.Frames.{Frame}
-use Rattle.aeth_components.specs.Lanes.{IsLane}
+use Rattle.aeth_components.specs.{Components.ComponentsState, Components.Cycle}
+use Rattle.aeth_components.specs.{Components.frames_of, Frames.Frame, Lanes.IsLane}
 use Rattle.aeth_components.proofs.CountingLemmas.{length-flits_counted}
 use Rattle.aeth_schedule.specs.declared.going.Going.{Going}
-use Rattle.aeth_stimuli.specs.Events.{events_in}
+use Rattle.aeth_stimuli.specs.{Events.events_in, Loaded.no_lane, Stimuli.AreStimuli, Stimuli.Offer}
 use Rattle.aeth_running.proofs.OutsideTold.{length-all_outside}
-use Rattle.aeth_running.specs.Network.{NetworkState, goings_in}
-use Rattle.aeth_running.specs.Network.{offers_in, outside_in, ready_in}
-use Rattle.aeth_stimuli.specs.Loaded.{no_lane}
+use Rattle.aeth_running.specs.Network.{NetworkState, goings_in, offers_in, outside_in, ready_in}
 use Rattle.aeth_running.specs.Network.{stepped, untils_in}
-use Rattle.aeth_stimuli.specs.Stimuli.{AreStimuli, Offer}
-use Rattle.aeth_network.specs.Behind.{passed}
-use Rattle.aeth_network.specs.Networks.{IsNetwork}
-use Rattle.aeth_network.specs.Fits.{AreFit, HaveCounts}
+use Rattle.aeth_network.specs.{Behind.passed, Networks.IsNetwork, Fits.AreFit, Fits.HaveCounts}
 use Rattle.aeth_network.proofs.CycleLemmas.{All-fit, AreFit-Cycle, Cycle-is, IsComponents-Cycle}
 use Rattle.aeth_network.proofs.FitLemmas.{HaveCounts-offered}
 use Rattle.aeth_network.proofs.LaneCounts.{length-untils}

@@ -1,16 +1,13 @@
 -- What is told, session by session, row by row, and channel by channel.
 use Rattle.std.proofs.Common.{◌≡◌, ◌≤◌, ◌<◌, ◌+◌, ◌-◌, ◌++◌, ℕ, zero, suc, List, [], ◌∷◌, ap, arith}
-use Rattle.std.proofs.Common.{drop, get_or, length, refl, set, take, sym}
-use Rattle.std.specs.Prelude.{slice_index}
+use Rattle.std.proofs.Common.{drop, get_or, length, refl, set, take, sym, slice_index, length-drop}
+use Rattle.std.proofs.lemmas.List.{drop_all, length_push}
 use Rattle.std.specs.List.{slice_index_or}
 use Rattle.aeth_stimuli.specs.Loaded.{no_lane}
-use Rattle.std.proofs.lemmas.List.{drop_all, length-drop, length_push}
 use Rattle.aeth_components.specs.declared.lane.Lane.{Lane}
-use Rattle.aeth_report.specs.Log.{ChannelData, SessionData}
-use Rattle.aeth_report.specs.declared.log.Landing.{Landing}
-use Rattle.aeth_running.specs.Network.{NetworkState}
-use Rattle.aeth_running.specs.Told.{channel_told, channels_told, told}
-use Rattle.aeth_running.specs.Told.{rows_told, session_told, sessions_told}
+use Rattle.aeth_report.specs.{Log.ChannelData, Log.SessionData, declared.log.Landing.Landing}
+use Rattle.aeth_running.specs.{Network.NetworkState, Told.channel_told, Told.channels_told}
+use Rattle.aeth_running.specs.{Told.told, Told.rows_told, Told.session_told, Told.sessions_told}
 use Rattle.aeth_schedule.specs.declared.going.Going.{Going}
 use Rattle.aeth_network.specs.ByNumber.{each_by}
 use Rattle.aeth_network.specs.Telling.{channel_by, channels_by, ended_with, followed_by, gone_by}

@@ -1,25 +1,20 @@
 -- The windows of accepted inputs begin one after the other, and what lies before the first that is
 -- left, and behind the last that begins.
-use Rattle.std.proofs.Common.{◌≡◌, ◌≤◌, ◌<◌, ◌∙◌, ℕ, All, List, [], ◌∷◌, Some, ap, arith}
-use Rattle.std.proofs.Common.{map, max, slice_get, subst, sym}
-use Rattle.std.specs.List.Sorted.{IsNonDecreasingBy}
+use Rattle.std.proofs.Common.{◌≡◌, ◌≤◌, ◌<◌, ◌∙◌, ℕ, All, List, [], ◌∷◌, Some, ap, arith, map, max}
+use Rattle.std.proofs.Common.{slice_get, subst, sym}
 use Rattle.std.proofs.lemmas.List.Elements.{All-cons, All-head, All-nil, All-tail}
+use Rattle.std.specs.List.Sorted.{IsNonDecreasingBy}
 use Rattle.aeth_base.proofs.Members.{All-slice_get}
 use Rattle.aeth_trace.proofs.OrderLemmas.{first_least, later_rise, rise-cons}
-use Rattle.aeth_trace.specs.Spans.{SpanData}
-use Rattle.aeth_trace.specs.declared.switches.SwitchRow.{SwitchRow}
+use Rattle.aeth_trace.specs.{Spans.SpanData, declared.switches.SwitchRow.SwitchRow}
 use Rattle.aeth_accepted.specs.Inputs.{Inputs, run_of}
-use Rattle.aeth_schedule.specs.Switching.{switches_from}
-use Rattle.aeth_schedule.specs.Windows.{IsWithin, StopsChannels, StopsWords, Writes, window_by}
-use Rattle.aeth_schedule.specs.Windows.{windows_over}
-use Rattle.aeth_schedule.specs.declared.windows.Window.{Window}
+use Rattle.aeth_schedule.specs.{Switching.switches_from, Windows.IsWithin, Windows.StopsChannels}
+use Rattle.aeth_schedule.specs.{Windows.StopsWords, Windows.Writes, Windows.window_by}
+use Rattle.aeth_schedule.specs.{Windows.windows_over, declared.windows.Window.Window}
 use Rattle.aeth_stimuli.specs.Stimuli.{Stimuli}
-use Rattle.aeth_running.proofs.Played.{played-stimuli as first-stimuli}
-use Rattle.aeth_running.specs.Network.{NetworkState}
-use Rattle.aeth_network.specs.Behind.{passed}
-use Rattle.aeth_network.specs.Runs.{IsNetworkOf}
-use Rattle.aeth_network.specs.Windows.{AreAscending, AreOver}
-use Rattle.aeth_network.proofs.Passed.{passed-of}
+use Rattle.aeth_running.{proofs.Played.played-stimuli as first-stimuli, specs.Network.NetworkState}
+use Rattle.aeth_network.{specs.Behind.passed, specs.Runs.IsNetworkOf, specs.Windows.AreAscending}
+use Rattle.aeth_network.{specs.Windows.AreOver, proofs.Passed.passed-of}
 
 -- When a window begins.
 abbrev pub begin_of : Window → ℕ

@@ -1,29 +1,20 @@
 -- Cycles that bring nothing but words.
-use Rattle.std.proofs.Common.{◌≡◌, ◌+◌, ◌==◌, ◌++◌, ◌∙◌, ℕ, List, [], ap, filter, fold, length}
-use Rattle.std.proofs.Common.{map, subst, sym}
-use Rattle.std.specs.Prelude.{slice_range, vec_capacity}
+use Rattle.std.proofs.Common.{◌≡◌, ◌+◌, ◌==◌, ◌++◌, ◌∙◌, ℕ, List, [], ap, filter, fold, length, map}
+use Rattle.std.proofs.Common.{subst, sym, slice_range, vec_capacity, append-nil}
 use Rattle.std.specs.List.{slice_index_or}
-use Rattle.std.proofs.lemmas.List.{append-nil}
 use Rattle.aeth_trace.specs.Channels.{channel_number}
 use Rattle.aeth_components.specs.Components.{ComponentsState, Cycle}
-use Rattle.aeth_components.specs.declared.event.Event.{Event}
-use Rattle.aeth_components.specs.declared.lane.Lane.{Lane}
+use Rattle.aeth_components.specs.declared.{event.Event.Event, lane.Lane.Lane}
 use Rattle.aeth_schedule.specs.declared.going.Going.{Going}
-use Rattle.aeth_stimuli.specs.Loaded.{no_lane}
-use Rattle.aeth_stimuli.specs.Stimuli.{Offer, Take}
-use Rattle.aeth_stimuli.specs.Events.{events_in}
-use Rattle.aeth_running.specs.Network.{NetworkState, accepted_with, gone_with, offers_in, outside_with}
-use Rattle.aeth_running.specs.Network.{ready_in, stepped, taking_with, until_with}
+use Rattle.aeth_stimuli.specs.{Loaded.no_lane, Stimuli.Offer, Stimuli.Take, Events.events_in}
+use Rattle.aeth_running.specs.Network.{NetworkState, accepted_with, gone_with, offers_in}
+use Rattle.aeth_running.specs.Network.{outside_with, ready_in, stepped, taking_with, until_with}
 use Rattle.aeth_running.specs.Routing.{Entering, entered_with}
-use Rattle.aeth_network.specs.Behind.{IsBehind}
-use Rattle.aeth_network.specs.Brought.{BringsWords}
-use Rattle.aeth_network.specs.Fits.{AreFit}
-use Rattle.aeth_network.specs.Networks.{IsNetwork}
-use Rattle.aeth_network.specs.declared.network.RoutedNetwork.TheInside.{Inside}
-use Rattle.aeth_network.specs.declared.state.State.{State}
-use Rattle.aeth_network.proofs.Cycling.{fit-started}
-use Rattle.aeth_network.proofs.SeenNetworks.{seen, seen_next}
-use Rattle.aeth_network.proofs.Stepping.{behind-is}
+use Rattle.aeth_network.specs.{Behind.IsBehind, Brought.BringsWords, Fits.AreFit}
+use Rattle.aeth_network.specs.{Networks.IsNetwork, declared.network.RoutedNetwork.TheInside.Inside}
+use Rattle.aeth_network.specs.{declared.state.State.State}
+use Rattle.aeth_network.proofs.{Cycling.fit-started, SeenNetworks.seen, SeenNetworks.seen_next}
+use Rattle.aeth_network.proofs.{Stepping.behind-is}
 
 module _ (all : Inside) (is : IsNetwork (vec_capacity all.state.replaced) (seen all))
     (brings : BringsWords (seen all)) where

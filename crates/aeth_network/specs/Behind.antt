@@ -2,7 +2,7 @@
 --
 --   passed, IsBehind      how many rows lie before a cycle, and the place behind those of a cycle
 -- This project's own.
-use Rattle.std.specs.Prelude.{◌≡◌, ◌≤◌, ◌+◌, ◌==◌, ℕ, List, filter, length, nat_lt, slice_range}
+use Rattle.std.proofs.Common.{◌≡◌, ◌≤◌, ◌+◌, ◌==◌, ℕ, List, filter, length, nat_lt, slice_range}
 
 -- How many rows lie before a cycle, where this is the cycle of a row.
 abbrev pub passed : {X : Type 0} → (X → ℕ) → ℕ → List X → ℕ

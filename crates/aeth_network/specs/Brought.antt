@@ -4,20 +4,18 @@
 --   IsBrought      the state with what has come
 --   BringsWords      nothing but words comes
 -- This project's own.
-use Rattle.std.specs.Prelude.{◌≡◌, ◌≤◌, ◌<◌, ◌*◌, ◌+◌, ◌++◌, ◌^◌, ℕ, [], All, fold, length, map}
-use Rattle.std.specs.Prelude.{vec_capacity}
+use Rattle.std.proofs.Common.{◌≡◌, ◌≤◌, ◌<◌, ◌*◌, ◌+◌, ◌++◌, ◌^◌, ℕ, [], All, fold, length, map}
+use Rattle.std.proofs.Common.{vec_capacity}
 use Rattle.std.specs.List.{slice_index_or}
 use Rattle.aeth_app.specs.Limits.{max_connections}
 use Rattle.aeth_trace.specs.Channels.{channel_number}
 use Rattle.aeth_components.specs.Lanes.{IsLane}
-use Rattle.aeth_stimuli.specs.Loaded.{no_lane}
-use Rattle.aeth_stimuli.specs.Events.{events_in}
+use Rattle.aeth_stimuli.specs.{Loaded.no_lane, Events.events_in}
 use Rattle.aeth_running.specs.Network.{NetworkState, accepted_with, gone_with, goings_in}
 use Rattle.aeth_running.specs.Network.{outside_with, takes_in, taking_with, until_with}
 use Rattle.aeth_running.specs.Routing.{enterings_in}
 use Rattle.aeth_network.specs.Fits.{AreFit, HaveCounts}
-use Rattle.aeth_network.specs.declared.given.CycleRows.{CycleRows}
-use Rattle.aeth_network.specs.declared.state.State.{State}
+use Rattle.aeth_network.specs.declared.{given.CycleRows.CycleRows, state.State.State}
 
 -- The sessions, words and receivers' rows of a cycle are for channels that there are, which have room
 -- for the words that they accept; and there is room to note how channels stand whose sessions go.

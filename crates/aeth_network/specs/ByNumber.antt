@@ -2,7 +2,7 @@
 --
 --   each_by      each element by its number, from a number on
 -- This project's own.
-use Rattle.std.specs.Prelude.{ℕ, suc, List, [], ◌∷◌}
+use Rattle.std.proofs.Common.{ℕ, suc, List, [], ◌∷◌}
 
 -- Each element by its number, from a number on.
 abbrev pub each_by : {X : Type 0} → (ℕ → X → X) → ℕ → List X → List X

@@ -2,7 +2,7 @@
 --
 --   carried_in      the flits on all wires in so many further cycles
 -- This project's own.
-use Rattle.std.specs.Prelude.{◌+◌, ℕ, zero, suc}
+use Rattle.std.proofs.Common.{◌+◌, ℕ, zero, suc}
 use Rattle.aeth_components.specs.Turns.{flits_on}
 use Rattle.aeth_running.specs.Network.{NetworkState, played}
 

@@ -7,15 +7,12 @@
 --   AreCursors      the places in the events, the sessions, the offered words, the receivers' rows, the
 --       windows of switches, and the rows that enter tables
 -- This project's own.
-use Rattle.std.specs.Prelude.{◌≡◌, ◌≤◌, ℕ, length}
+use Rattle.std.proofs.Common.{◌≡◌, ◌≤◌, ℕ, length}
 use Rattle.std.specs.List.Sorted.{IsNonDecreasing, IsNonDecreasingBy}
 use Rattle.aeth_stimuli.specs.Stimuli.{Stimuli}
 use Rattle.aeth_running.specs.Routing.{Routing, later_rows}
-use Rattle.aeth_network.specs.Behind.{passed}
-use Rattle.aeth_network.specs.Routes.{routing_in}
-use Rattle.aeth_network.specs.Windows.{AreOver}
-use Rattle.aeth_network.specs.declared.given.Cursors.{Cursors}
-use Rattle.aeth_network.specs.declared.given.Given.{Given}
+use Rattle.aeth_network.specs.{Behind.passed, Routes.routing_in, Windows.AreOver}
+use Rattle.aeth_network.specs.{declared.given.Cursors.Cursors, declared.given.Given.Given}
 
 -- What a network is given.
 abbrev pub stimuli_with : Given → Stimuli

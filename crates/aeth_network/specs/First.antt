@@ -1,10 +1,9 @@
 -- The state of a network before its first cycle.
 -- This project's own.
-use Rattle.std.specs.Prelude.{◌≡◌, ◌≤◌, ◌*◌, [], length, replicate, vec_capacity}
+use Rattle.std.proofs.Common.{◌≡◌, ◌≤◌, ◌*◌, [], length, replicate, vec_capacity}
 use Rattle.aeth_accepted.specs.Inputs.{Inputs}
 use Rattle.aeth_schedule.specs.Goings.{goings_of}
-use Rattle.aeth_running.specs.Network.{routed_components}
-use Rattle.aeth_running.specs.Routing.{Routing}
+use Rattle.aeth_running.specs.{Network.routed_components, Routing.Routing}
 use Rattle.aeth_network.specs.declared.state.State.{State}
 
 -- The components are loaded, no channel accepts words, no session has gone, and there is room to note

@@ -3,10 +3,9 @@
 --   is_accepted, IsFit, AreFit      the words that a session accepts, and room for them
 --   HaveCounts      numbers that can still count what is offered
 -- This project's own.
-use Rattle.std.specs.Prelude.{◌≡◌, ◌≤◌, ◌<◌, ◌+◌, ◌^◌, ◌==◌, ◌&&◌, ℕ, All, Bool, List, count_by}
-use Rattle.std.specs.Prelude.{length, nat_lt, slice_get, slice_index, Some}
-use Rattle.aeth_components.specs.Lanes.{IsLane}
-use Rattle.aeth_components.specs.declared.lane.Lane.{Lane}
+use Rattle.std.proofs.Common.{◌≡◌, ◌≤◌, ◌<◌, ◌+◌, ◌^◌, ◌==◌, ◌&&◌, ℕ, All, Bool, List, count_by}
+use Rattle.std.proofs.Common.{length, nat_lt, slice_get, slice_index, Some}
+use Rattle.aeth_components.specs.{Lanes.IsLane, declared.lane.Lane.Lane}
 use Rattle.aeth_stimuli.specs.Stimuli.{Offer}
 
 -- Whether the channel of a number accepts a word, where it accepts words until these cycles.

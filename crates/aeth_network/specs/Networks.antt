@@ -3,19 +3,16 @@
 --   network_of      a network by its parts
 --   IsNetwork      what holds of it
 -- This project's own.
-use Rattle.std.specs.Prelude.{◌≡◌, ◌≤◌, ◌<◌, ◌*◌, ◌^◌, ℕ, All, drop, length}
+use Rattle.std.proofs.Common.{◌≡◌, ◌≤◌, ◌<◌, ◌*◌, ◌^◌, ℕ, All, drop, length}
 use Rattle.std.specs.List.Sorted.{IsNonDecreasingBy}
 use Rattle.aeth_base.specs.Limits.{max_cycles}
 use Rattle.aeth_app.specs.Limits.{max_connections}
 use Rattle.aeth_report.specs.Log.{LogData}
-use Rattle.aeth_components.specs.Components.{IsComponents, frames_of}
-use Rattle.aeth_components.specs.Lanes.{IsLane}
-use Rattle.aeth_running.specs.Network.{NetworkState}
-use Rattle.aeth_running.specs.Routing.{Routing, later_rows}
+use Rattle.aeth_components.specs.{Components.IsComponents, Components.frames_of, Lanes.IsLane}
+use Rattle.aeth_running.specs.{Network.NetworkState, Routing.Routing, Routing.later_rows}
 use Rattle.aeth_stimuli.specs.Stimuli.{AreStimuli, Stimuli}
-use Rattle.aeth_network.specs.Behind.{passed}
-use Rattle.aeth_network.specs.Fits.{AreFit, HaveCounts}
-use Rattle.aeth_network.specs.declared.state.State.{State}
+use Rattle.aeth_network.specs.{Behind.passed, Fits.AreFit, Fits.HaveCounts}
+use Rattle.aeth_network.specs.{declared.state.State.State}
 
 -- A network by what it is given, by what its routers send on, its state, its log of which nothing has
 -- landed, and the cycles done.

@@ -12,12 +12,10 @@
 --   HasTaker, IsAskedBy, HasRowTaker      so of those whose receivers take some as they stand, or by rows
 --   IsFirstKnown      a first cycle, as far as is known
 -- This project's own.
-use Rattle.std.specs.Prelude.{◌≡◌, ◌<◌, ◌≤◌, ◌+◌, ◌==◌, ℕ, [], List, Some, filter, fold, if◌then◌else◌}
-use Rattle.std.specs.Prelude.{slice_get, slice_range, true}
-use Rattle.aeth_components.specs.Lanes.{is_open}
-use Rattle.aeth_components.specs.declared.lane.Lane.{Lane}
-use Rattle.aeth_schedule.specs.Windows.{IsWithin}
-use Rattle.aeth_schedule.specs.declared.windows.Window.{Window}
+use Rattle.std.proofs.Common.{◌≡◌, ◌<◌, ◌≤◌, ◌+◌, ◌==◌, ℕ, [], List, Some, filter, fold}
+use Rattle.std.proofs.Common.{if◌then◌else◌, slice_get, slice_range, true}
+use Rattle.aeth_components.specs.{Lanes.is_open, declared.lane.Lane.Lane}
+use Rattle.aeth_schedule.specs.{Windows.IsWithin, declared.windows.Window.Window}
 use Rattle.aeth_stimuli.specs.Stimuli.{Offer, Take}
 use Rattle.aeth_network.specs.Behind.{passed}
 

@@ -4,14 +4,11 @@
 --   added_by      the channel of a number with more sessions
 --   AreOffered, IsFresh      words of a run, and sessions whose words are there
 -- This project's own.
-use Rattle.std.specs.Prelude.{◌≡◌, ◌≤◌, ◌+◌, ◌++◌, ℕ, All, List, length, map}
-use Rattle.aeth_base.specs.Limits.{max_cycles}
-use Rattle.aeth_base.specs.declared.ids.Channel.{Channel}
-use Rattle.aeth_server.specs.ChannelShape.{IsShapeInRange}
-use Rattle.aeth_server.specs.Limits.{max_session_words}
-use Rattle.aeth_trace.specs.Channels.{channel_number}
-use Rattle.aeth_trace.specs.Words.{words_on}
-use Rattle.aeth_trace.specs.declared.words.WordRow.{WordRow}
+use Rattle.std.proofs.Common.{◌≡◌, ◌≤◌, ◌+◌, ◌++◌, ℕ, All, List, length, map}
+use Rattle.aeth_base.specs.{Limits.max_cycles, declared.ids.Channel.Channel}
+use Rattle.aeth_server.specs.{ChannelShape.IsShapeInRange, Limits.max_session_words}
+use Rattle.aeth_trace.specs.{Channels.channel_number, Words.words_on}
+use Rattle.aeth_trace.specs.{declared.words.WordRow.WordRow}
 use Rattle.aeth_report.specs.Log.{ChannelData}
 use Rattle.aeth_schedule.specs.declared.going.Going.{Going}
 use Rattle.aeth_running.specs.FirstLog.{first_session}

@@ -8,16 +8,13 @@
 --   first_use, routing_by      the tables of a list of switches
 --   entered_use      components once a use case is entered
 -- Tables in routers: this project's own.
-use Rattle.std.specs.Prelude.{ℕ, List, [], ◌∷◌, Option, None, Some, map}
+use Rattle.std.proofs.Common.{ℕ, List, [], ◌∷◌, Option, None, Some, map}
 use Rattle.std.specs.List.{slice_index_or}
-use Rattle.aeth_router.specs.declared.part.Part.{Part}
-use Rattle.aeth_router.specs.declared.router_row.RouterRow.{RouterRow}
-use Rattle.aeth_trace.specs.Spans.{SpanData}
-use Rattle.aeth_trace.specs.declared.switches.SwitchRow.{SwitchRow}
+use Rattle.aeth_router.specs.declared.{part.Part.Part, router_row.RouterRow.RouterRow}
+use Rattle.aeth_trace.specs.{Spans.SpanData, declared.switches.SwitchRow.SwitchRow}
 use Rattle.aeth_report.specs.Sessions.{Switch, close_by}
 use Rattle.aeth_components.specs.Entering.{with_rows}
-use Rattle.aeth_schedule.specs.Switching.{later_switches}
-use Rattle.aeth_schedule.specs.declared.windows.Window.{Window}
+use Rattle.aeth_schedule.specs.{Switching.later_switches, declared.windows.Window.Window}
 use Rattle.aeth_running.specs.Routing.{ByHeaders, ByTables, Entering, Routing}
 use Rattle.aeth_network.specs.declared.tables.EnteredUse.{EnteredUse}
 

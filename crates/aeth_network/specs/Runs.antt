@@ -3,17 +3,14 @@
 --   IsNetworkOf, HasInputs      the network of accepted inputs, behind as many cycles as are done
 --   AreWiresOf      wires that carry what the private servers of a run send
 -- This project's own.
-use Rattle.std.specs.Prelude.{◌≡◌, ◌≤◌, ◌<◌, ◌+◌, ℕ, List, Option, None, Some, length}
+use Rattle.std.proofs.Common.{◌≡◌, ◌≤◌, ◌<◌, ◌+◌, ℕ, List, Option, None, Some, length}
 use Rattle.std.specs.Option.{option_to_list}
 use Rattle.aeth_base.specs.declared.ids.LinkId.{LinkId}
-use Rattle.aeth_chip.specs.Paths.{delay_of}
-use Rattle.aeth_chip.specs.Wires.{wire_at}
-use Rattle.aeth_clocked.specs.Wires.{flit_on}
-use Rattle.aeth_clocked.specs.declared.flit.Flit.{Flit}
+use Rattle.aeth_chip.specs.{Paths.delay_of, Wires.wire_at}
+use Rattle.aeth_clocked.specs.{Wires.flit_on, declared.flit.Flit.Flit}
 use Rattle.aeth_ni.specs.Component.{Arrival, arrival_of}
 use Rattle.aeth_report.specs.Carries.{carries}
-use Rattle.aeth_refinement.specs.Carried.{IsPassed}
-use Rattle.aeth_refinement.specs.Fabric.{AtRouter}
+use Rattle.aeth_refinement.specs.{Carried.IsPassed, Fabric.AtRouter}
 use Rattle.aeth_accepted.specs.Inputs.{AreAccepted, Inputs, run_of}
 use Rattle.aeth_fabric.specs.Fabric.{fabric_of}
 use Rattle.aeth_running.specs.Network.{NetworkState, first_network, played}

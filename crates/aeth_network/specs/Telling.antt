@@ -7,14 +7,13 @@
 --   ended_with, last_by      a channel whose last session is told
 --   channel_by, channels_by      a channel, and all from a number on
 -- This project's own.
-use Rattle.std.specs.Prelude.{ℕ, zero, suc, ◌+◌, ◌-◌, List, [], ◌∷◌, ◌++◌, drop, filter, length, map}
-use Rattle.std.specs.Prelude.{slice_index, take}
+use Rattle.std.proofs.Common.{ℕ, zero, suc, ◌+◌, ◌-◌, List, [], ◌∷◌, ◌++◌, drop, filter, length}
+use Rattle.std.proofs.Common.{map, slice_index, take}
 use Rattle.std.specs.List.{slice_index_or, zip}
 use Rattle.aeth_report.specs.Log.{ChannelData, SessionData}
 use Rattle.aeth_components.specs.declared.lane.Lane.{Lane}
 use Rattle.aeth_schedule.specs.declared.going.Going.{Going}
-use Rattle.aeth_stimuli.specs.Loaded.{no_lane}
-use Rattle.aeth_stimuli.specs.Stimuli.{is_over}
+use Rattle.aeth_stimuli.specs.{Loaded.no_lane, Stimuli.is_over}
 use Rattle.aeth_running.specs.Told.{session_told, sessions_told}
 use Rattle.aeth_network.specs.ByNumber.{each_by}
 

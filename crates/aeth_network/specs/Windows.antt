@@ -3,10 +3,9 @@
 --   AreAscending      windows that begin one after the other
 --   AreOver      the first so many windows have no more cycles
 -- This project's own.
-use Rattle.std.specs.Prelude.{◌≡◌, ◌≤◌, ◌<◌, ℕ, All, List, Some, slice_get}
+use Rattle.std.proofs.Common.{◌≡◌, ◌≤◌, ◌<◌, ℕ, All, List, Some, slice_get}
 use Rattle.std.specs.List.Sorted.{IsNonDecreasingBy}
-use Rattle.aeth_schedule.specs.Windows.{IsWithin}
-use Rattle.aeth_schedule.specs.declared.windows.Window.{Window}
+use Rattle.aeth_schedule.specs.{Windows.IsWithin, declared.windows.Window.Window}
 
 -- Each window begins when words are stopped, and none begins before an earlier one.
 pub record AreAscending (windows : List Window) : Type 0 where

@@ -1,13 +1,12 @@
 -- A write does to an interface what it does to the list of entries, and to no other interface.
-use Rattle.std.proofs.Common.{◌≡◌, ◌≢◌, ◌<◌, ◌↔◌, ◌&&◌, ◌∙◌, ℕ, false, eqb, refl, sym}
-use Rattle.std.proofs.Common.{ap, subst, inl, inr, arith}
-use Rattle.std.proofs.Common.{List, ◌∷◌, Contains, length, Some, None, slice_get}
+use Rattle.std.proofs.Common.{◌≡◌, ◌≢◌, ◌<◌, ◌↔◌, ◌&&◌, ◌∙◌, ℕ, false, eqb, refl, sym, ap, subst}
+use Rattle.std.proofs.Common.{inl, inr, arith, List, ◌∷◌, Contains, length, Some, None, slice_get}
+use Rattle.std.proofs.Common.{eq-eqb, ne_eqb}
+use Rattle.std.proofs.lemmas.{Bool.cases_eq, Bool.Decides.nat_tests, Option.same_Some}
 use Rattle.std.specs.List.{slice_set}
-use Rattle.std.proofs.lemmas.Bool.{cases_eq, eq-eqb, ne_eqb}
-use Rattle.std.proofs.lemmas.Bool.Decides.{nat_tests}
-use Rattle.std.proofs.lemmas.Option.{same_Some}
 use Rattle.aeth_base.proofs.Lists.{slice_get-slice_set_same, slice_get-slice_set_other}
-use Rattle.aeth_base.proofs.Members.{Contains-there, Contains-cases, Contains-filter, filter-Contains}
+use Rattle.aeth_base.proofs.Members.{Contains-there, Contains-cases, Contains-filter}
+use Rattle.aeth_base.proofs.Members.{filter-Contains}
 use Rattle.aeth_base.specs.declared.ids.NiId.{NiId}
 use Rattle.aeth_ni.specs.declared.write.Write.{Write}
 use Rattle.aeth_ni.specs.declared.write.Write.TheVariants.{ClearSlot, ClearRoute, SetRoute, SetSlot}

@@ -1,8 +1,7 @@
 -- Where an entry comes from, and how long it stays, over many writes.
-use Rattle.std.proofs.Common.{◌≡◌, ◌⊎◌, ◌&&◌, ℕ, true, eqb, refl, ap, inl, inr, arith}
-use Rattle.std.proofs.Common.{List, [], ◌∷◌, Contains}
-use Rattle.std.specs.Prelude.{fold}
-use Rattle.std.proofs.lemmas.Bool.{cases_Bool, and_parts, eqb-true}
+use Rattle.std.proofs.Common.{◌≡◌, ◌⊎◌, ◌&&◌, ℕ, true, eqb, refl, ap, inl, inr, arith, List, []}
+use Rattle.std.proofs.Common.{◌∷◌, Contains, fold, eqb-true}
+use Rattle.std.proofs.lemmas.Bool.{cases_Bool, and_parts}
 use Rattle.aeth_base.proofs.Members.{Contains-nil, Contains-here, Contains-there, Contains-cases}
 use Rattle.aeth_base.proofs.Members.{Contains-filter, filter-Contains}
 use Rattle.aeth_base.specs.declared.ids.NiId.{NiId}

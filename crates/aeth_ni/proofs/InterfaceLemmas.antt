@@ -1,7 +1,5 @@
 -- Laws of network interfaces.
-use Rattle.std.proofs.Common.{◌≡◌, ◌≢◌, ◌<◌, ℕ, refl}
-use Rattle.std.proofs.Common.{List, length, length-set}
-use Rattle.std.proofs.lemmas.List.{get_or-set_other}
+use Rattle.std.proofs.Common.{◌≡◌, ◌≢◌, ◌<◌, ℕ, refl, List, length, length-set, get_or-set_other}
 use Rattle.std.proofs.lemmas.Grind.{get_or-set_at}
 use Rattle.aeth_ni.specs.Queue.{QueueState, empty_queue}
 use Rattle.aeth_ni.specs.Interface.{queue_at, with_queue}

@@ -1,17 +1,15 @@
 -- What the writes of a program set and clear.
-use Rattle.std.proofs.Common.{◌≡◌, ◌⊎◌, ℕ, sym, ap, subst, inl, inr}
-use Rattle.std.proofs.Common.{List, [], ◌∷◌, Contains, map}
-use Rattle.std.specs.List.{flat_map}
+use Rattle.std.proofs.Common.{◌≡◌, ◌⊎◌, ℕ, sym, ap, subst, inl, inr, List, [], ◌∷◌, Contains, map}
 use Rattle.std.proofs.lemmas.List.Elements.{Contains-append_left, Contains-append_cases}
-use Rattle.aeth_base.proofs.Members.{Contains-there, Contains-cases, sole-Contains}
-use Rattle.aeth_base.proofs.Members.{Contains-map, map-Contains}
+use Rattle.std.specs.List.{flat_map}
+use Rattle.aeth_base.proofs.Members.{Contains-there, Contains-cases, sole-Contains, Contains-map}
+use Rattle.aeth_base.proofs.Members.{map-Contains, Contains-flat_map, flat_map-Contains}
 use Rattle.aeth_ni.specs.declared.row.ChannelRow.{ChannelRow}
 use Rattle.aeth_ni.specs.declared.write.Write.{Write}
 use Rattle.aeth_ni.specs.declared.write.Write.TheVariants.{ClearSlot, ClearRoute, SetRoute, SetSlot}
 use Rattle.aeth_ni.specs.Program.{Entry, closing_writes, entries_of_channel, opening_writes}
 use Rattle.aeth_ni.specs.Switch.{IsSameSlot, entries_in}
 use Rattle.aeth_ni.proofs.EntryWrites.{clear_of, set_of}
-use Rattle.aeth_base.proofs.Members.{Contains-flat_map, flat_map-Contains}
 
 -- What a write names.
 abbrev named : Write → Entry

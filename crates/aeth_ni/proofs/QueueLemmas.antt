@@ -1,7 +1,5 @@
 -- Laws of one queue number of a network interface.
-use Rattle.std.proofs.Common.{◌≡◌, ◌≤◌, ℕ, refl, arith}
-use Rattle.std.proofs.Common.{List, ◌++◌, length}
-use Rattle.std.specs.Prelude.{◌-◌}
+use Rattle.std.proofs.Common.{◌≡◌, ◌≤◌, ℕ, refl, arith, List, ◌++◌, length, ◌-◌}
 use Rattle.aeth_ni.specs.Queue.{QueueState, flit_landed}
 
 -- Words that there is room for all stay.

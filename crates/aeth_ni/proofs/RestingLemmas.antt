@@ -1,14 +1,11 @@
 -- When an interface rests.
-use Rattle.std.proofs.Common.{◌≡◌, ◌↔◌, ◌≤◌, ◌<◌, ◌+◌, ◌-◌, ◌%◌, ◌∙◌, ℕ, refl, sym, ap, false, arith}
-use Rattle.std.proofs.Common.{List, length, Option, Some, None, is_some}
+use Rattle.std.proofs.Common.{◌≡◌, ◌↔◌, ◌≤◌, ◌<◌, ◌+◌, ◌-◌, ◌%◌, ◌∙◌, ℕ, refl, sym, ap, false}
+use Rattle.std.proofs.Common.{arith, List, length, Option, Some, None, is_some, eq-eqb}
 use Rattle.std.proofs.Math.Nat.{mod-add-mod, mod-le, mod-lt}
-use Rattle.std.specs.List.{slice_index_or}
-use Rattle.std.specs.Option.{option_map}
-use Rattle.std.proofs.lemmas.Bool.{eq-eqb}
 use Rattle.std.proofs.lemmas.List.{set-get_or}
-use Rattle.aeth_clocked.specs.Resting.{HasNoFlit, RestsDrive, RestsLatch}
-use Rattle.aeth_clocked.specs.Wires.{flit_on}
-use Rattle.aeth_clocked.specs.declared.flit.Flit.{Flit}
+use Rattle.std.specs.{List.slice_index_or, Option.option_map}
+use Rattle.aeth_clocked.specs.{Resting.HasNoFlit, Resting.RestsDrive, Resting.RestsLatch}
+use Rattle.aeth_clocked.specs.{Wires.flit_on, declared.flit.Flit.Flit}
 use Rattle.aeth_clocked.proofs.WiresLemmas.{HasNoFlit-one}
 use Rattle.aeth_ni.specs.Component.{absorbed, arrival_of, emitted_by, flit_sent_by, last_of}
 use Rattle.aeth_ni.specs.Component.{interface_absorb, interface_after, interface_emit}

@@ -1,22 +1,18 @@
 -- A program from one use case to another, write by write.
-use Rattle.std.proofs.Common.{◌≡◌, ◌⊎◌, ◌≤◌, ◌+◌, ℕ, refl, inl, inr, arith}
-use Rattle.std.proofs.Common.{List, Contains, length, take, drop}
-use Rattle.std.specs.Prelude.{fold}
-use Rattle.std.specs.List.{flat_map}
+use Rattle.std.proofs.Common.{◌≡◌, ◌⊎◌, ◌≤◌, ◌+◌, ℕ, refl, inl, inr, arith, List, Contains, length}
+use Rattle.std.proofs.Common.{take, drop, fold, take-append-drop, take_all}
 use Rattle.std.proofs.Math.Seq.{take-append-add}
-use Rattle.std.proofs.lemmas.List.{take-append-drop, take-append-le, take_all}
-use Rattle.std.proofs.lemmas.List.Elements.{Contains-append_left}
-use Rattle.std.proofs.lemmas.List.Sums.{fold-append}
-use Rattle.aeth_ni.specs.declared.row.ChannelRow.{ChannelRow}
-use Rattle.aeth_ni.specs.declared.write.Write.{Write}
+use Rattle.std.proofs.lemmas.List.{take-append-le, Elements.Contains-append_left, Sums.fold-append}
+use Rattle.std.specs.List.{flat_map}
+use Rattle.aeth_ni.specs.declared.{row.ChannelRow.ChannelRow, write.Write.Write}
 use Rattle.aeth_ni.specs.Program.{Entry, closing_writes, entries_after, entries_behind}
 use Rattle.aeth_ni.specs.Program.{entries_of_channel, opening_writes, program_of}
 use Rattle.aeth_ni.specs.Switch.{AreSlotsApart, IsSwitch, entries_in}
 use Rattle.aeth_ni.proofs.EntryWrites.{Leave, fold-cases, fold-cleared, fold-keeps, fold-sets}
 use Rattle.aeth_ni.proofs.EntryWrites.{set_of}
-use Rattle.aeth_base.proofs.Members.{Contains-flat_map, flat_map-Contains}
 use Rattle.aeth_ni.proofs.ProgramWrites.{closing-cleared, closing-clears, closing-sets}
 use Rattle.aeth_ni.proofs.ProgramWrites.{opening-clears, opening-set, opening-sets}
+use Rattle.aeth_base.proofs.Members.{Contains-flat_map, flat_map-Contains}
 
 -- What is in the first of a list is in the list.
 Contains-from_take : (count : ℕ) (writes : List Write) (write : Write)

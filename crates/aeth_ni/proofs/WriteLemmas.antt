@@ -1,8 +1,6 @@
 -- Interfaces whose tables are written hold, after each write, just the entries that are told.
-use Rattle.std.proofs.Common.{◌≡◌, ◌∙◌, refl, sym, inl, inr}
-use Rattle.std.proofs.Common.{List, [], ◌∷◌, All, Contains, length, length-set, get_or, map}
-use Rattle.std.proofs.Common.{Some, None}
-use Rattle.std.specs.Prelude.{◌==◌, fold}
+use Rattle.std.proofs.Common.{◌≡◌, ◌∙◌, refl, sym, inl, inr, List, [], ◌∷◌, All, Contains, length}
+use Rattle.std.proofs.Common.{length-set, get_or, map, Some, None, ◌==◌, fold}
 use Rattle.std.proofs.lemmas.Bool.{cases_Bool}
 use Rattle.std.proofs.lemmas.List.Elements.{All-filter, All-cons, All-head, All-tail, All-map}
 use Rattle.aeth_base.specs.declared.ids.NiId.{NiId}

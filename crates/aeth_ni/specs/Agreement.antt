@@ -1,11 +1,8 @@
 -- The law of latching that components owe: what an interface absorbs depends on its entering link
 -- alone.
 -- This project's own.
-use Rattle.std.specs.Prelude.{◌≡◌, List, Option, None, unwrap_or}
-use Rattle.std.proofs.Common.{ap, refl}
-use Rattle.std.proofs.lemmas.Bool.{eq-eqb}
-use Rattle.aeth_clocked.specs.Wires.{AgreeOn}
-use Rattle.aeth_clocked.specs.declared.flit.Flit.{Flit}
+use Rattle.std.proofs.Common.{◌≡◌, List, Option, None, unwrap_or, ap, refl, eq-eqb}
+use Rattle.aeth_clocked.specs.{Wires.AgreeOn, declared.flit.Flit.Flit}
 use Rattle.aeth_ni.specs.Interface.{InterfaceState}
 use Rattle.aeth_ni.specs.Component.{absorbed, arrival_of, interface_absorb, interface_inputs}
 

@@ -6,14 +6,11 @@
 --   interface_outputs and its kin  the meanings of an interface as a component
 --
 -- Slot tables in network interfaces: after Æthereal (2005).
-use Rattle.std.specs.Prelude.{ℕ, ◌%◌, ◌==◌, Bool, Option, Some, None, Result, Ok, Err}
-use Rattle.std.specs.Prelude.{List, length}
+use Rattle.std.proofs.Common.{ℕ, ◌%◌, ◌==◌, Bool, Option, Some, None, Result, Ok, Err, List, length}
 use Rattle.std.specs.List.{slice_index_or}
-use Rattle.aeth_clocked.specs.Wires.{flit_on}
-use Rattle.aeth_clocked.specs.declared.flit.Flit.{Flit}
+use Rattle.aeth_clocked.specs.{Wires.flit_on, declared.flit.Flit.Flit}
 use Rattle.aeth_header.specs.Header.{header_of}
-use Rattle.aeth_header.specs.declared.fault.HeaderFault.{HeaderFault}
-use Rattle.aeth_header.specs.declared.header.Header.{Header}
+use Rattle.aeth_header.specs.declared.{fault.HeaderFault.HeaderFault, header.Header.Header}
 use Rattle.aeth_ni.specs.Queue.{QueueState, words_in, flit_landed}
 use Rattle.aeth_ni.specs.Sending.{emitted, flit_sent}
 use Rattle.aeth_ni.specs.Interface.{InterfaceState, queue_at, with_queue}

@@ -1,10 +1,8 @@
 -- What the slot tables of interfaces hold, as entries.
 -- This project's own.
-use Rattle.std.specs.Prelude.{◌≡◌, ◌↔◌, ℕ, List, All, Contains, Some, map, slice_get}
-use Rattle.aeth_ni.specs.declared.write.Write.{Write}
-use Rattle.aeth_ni.specs.Interface.{InterfaceState}
-use Rattle.aeth_ni.specs.Program.{Entry}
-use Rattle.aeth_ni.specs.Writes.{addressee, IsWritable}
+use Rattle.std.proofs.Common.{◌≡◌, ◌↔◌, ℕ, List, All, Contains, Some, map, slice_get}
+use Rattle.aeth_ni.specs.{declared.write.Write.Write, Interface.InterfaceState, Program.Entry}
+use Rattle.aeth_ni.specs.{Writes.addressee, Writes.IsWritable}
 
 -- Of the entries those of this interface are what its slots name.
 abbrev pub Holds : InterfaceState → List Entry → Type 0

@@ -5,13 +5,11 @@
 --   new_interface                  the state at first
 --
 -- Slot tables in network interfaces: after Æthereal (2005).
-use Rattle.std.specs.Prelude.{◌≡◌, ◌<◌, ℕ, Option, None, IfSome}
-use Rattle.std.specs.Prelude.{List, length, map, replicate, All, slice_set}
+use Rattle.std.proofs.Common.{◌≡◌, ◌<◌, ℕ, Option, None, IfSome, List, length, map, replicate, All}
+use Rattle.std.proofs.Common.{slice_set}
 use Rattle.std.specs.List.{slice_index_or}
-use Rattle.aeth_base.specs.declared.ids.LinkId.{LinkId}
-use Rattle.aeth_base.specs.declared.ids.NiId.{NiId}
-use Rattle.aeth_ni.specs.Limits.{queues_of_interface}
-use Rattle.aeth_ni.specs.Queue.{QueueState, empty_queue}
+use Rattle.aeth_base.specs.declared.ids.{LinkId.LinkId, NiId.NiId}
+use Rattle.aeth_ni.specs.{Limits.queues_of_interface, Queue.QueueState, Queue.empty_queue}
 
 -- An interface: its number and its two links, the queue that injects in each slot, the queues,
 -- and the queue and the word count of the flit that was latched last.

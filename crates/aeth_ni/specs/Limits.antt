@@ -1,6 +1,6 @@
 -- The numbers of a network interface.
 -- Its sizes: this project's own.
-use Rattle.std.specs.Prelude.{ℕ}
+use Rattle.std.proofs.Common.{ℕ}
 
 -- The queue numbers of an interface.
 abbrev pub queues_of_interface : ℕ

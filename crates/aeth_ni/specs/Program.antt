@@ -1,8 +1,8 @@
 -- Programs: the writes that bring the tables of all interfaces from one use case to another, and
 -- the slot entries that the interfaces hold on the way.
 -- One write in a cycle, through one central port: this project's own.
-use Rattle.std.specs.Prelude.{ℕ, ◌+◌, ◌==◌, ◌&&◌, not, List, [], ◌∷◌, ◌++◌, map, filter, fold, take}
-use Rattle.std.specs.Prelude.{length}
+use Rattle.std.proofs.Common.{ℕ, ◌+◌, ◌==◌, ◌&&◌, not, List, [], ◌∷◌, ◌++◌, map, filter, fold, take}
+use Rattle.std.proofs.Common.{length}
 use Rattle.std.specs.List.{flat_map}
 use Rattle.aeth_base.specs.declared.ids.NiId.{NiId}
 use Rattle.aeth_ni.specs.declared.row.ChannelRow.{ChannelRow}

@@ -9,15 +9,12 @@
 --
 -- Source and receive queues, and credits that ride in headers: after Æthereal (2005). The sizes
 -- are this project's own.
-use Rattle.std.specs.Prelude.{◌≡◌, ◌<◌, ℕ, ◌+◌, ◌^◌, min, ◌==◌}
-use Rattle.std.specs.Prelude.{Bool, true, false, if◌then◌else◌, Option, Some, None, IfSome}
-use Rattle.std.specs.Prelude.{List, [], ◌∷◌, ◌++◌, length, take, drop}
+use Rattle.std.proofs.Common.{◌≡◌, ◌<◌, ℕ, ◌+◌, ◌^◌, min, ◌==◌, Bool, true, false, if◌then◌else◌}
+use Rattle.std.proofs.Common.{Option, Some, None, IfSome, List, [], ◌∷◌, ◌++◌, length, take, drop}
 use Rattle.circular_buffer.specs.Buffer.{keep_last}
 use Rattle.aeth_clocked.specs.declared.flit.Flit.{Flit}
-use Rattle.aeth_header.specs.declared.header.Header.{Header}
-use Rattle.aeth_header.specs.Layout.{route_bits, queue_bits}
-use Rattle.aeth_ni.specs.Limits.{waiting_words, max_count}
-use Rattle.aeth_ni.specs.declared.queue.Route.{Route}
+use Rattle.aeth_header.specs.{declared.header.Header.Header, Layout.route_bits, Layout.queue_bits}
+use Rattle.aeth_ni.specs.{Limits.waiting_words, Limits.max_count, declared.queue.Route.Route}
 
 -- What one queue number holds: the words that wait to be sent, the words that were received and
 -- not taken, the room for these, the words that the other end has room for, and the credits that

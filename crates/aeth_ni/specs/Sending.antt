@@ -6,15 +6,12 @@
 --   sending, emitted, flit_sent         the route, the flit and the state in a slot of the queue's own
 --
 -- Words that a counter lets go, and credits that ride in headers: after Æthereal (2005).
-use Rattle.std.specs.Prelude.{ℕ, ◌-◌, min, ◌==◌, ◌&&◌, ◌||◌, Bool, if◌then◌else◌}
-use Rattle.std.specs.Prelude.{Option, None, option_map, is_some}
-use Rattle.std.specs.Prelude.{List, length, take, drop, slice_index}
+use Rattle.std.proofs.Common.{ℕ, ◌-◌, min, ◌==◌, ◌&&◌, ◌||◌, Bool, if◌then◌else◌, Option, None}
+use Rattle.std.proofs.Common.{option_map, is_some, List, length, take, drop, slice_index}
 use Rattle.aeth_base.specs.Limits.{credits_per_flit, words_per_flit}
 use Rattle.aeth_clocked.specs.declared.flit.Flit.{Flit}
-use Rattle.aeth_header.specs.Header.{word_of}
-use Rattle.aeth_header.specs.declared.header.Header.{Header}
-use Rattle.aeth_ni.specs.declared.queue.Route.{Route}
-use Rattle.aeth_ni.specs.Queue.{QueueState}
+use Rattle.aeth_header.specs.{Header.word_of, declared.header.Header.Header}
+use Rattle.aeth_ni.specs.{declared.queue.Route.Route, Queue.QueueState}
 
 -- How many words the next flit takes: no more than a flit carries, than wait, and than the other
 -- end has room for.

@@ -1,6 +1,6 @@
 -- From one use case to another: which channels close and open, and what the tables hold meanwhile.
 -- Channels that go on through a switch: this project's own.
-use Rattle.std.specs.Prelude.{◌≡◌, ◌⊎◌, List, Contains}
+use Rattle.std.proofs.Common.{◌≡◌, ◌⊎◌, List, Contains}
 use Rattle.std.specs.List.{flat_map}
 use Rattle.aeth_ni.specs.declared.row.ChannelRow.{ChannelRow}
 use Rattle.aeth_ni.specs.Program.{Entry, entries_of_channel}

@@ -5,8 +5,8 @@
 --   written_at, written_by         what it makes of any, and what writes make of all
 --
 -- One write in a cycle, through one central port: this project's own.
-use Rattle.std.specs.Prelude.{◌<◌, ◌==◌, if◌then◌else◌, Some, None, List, map, fold}
-use Rattle.std.specs.Prelude.{length, slice_set}
+use Rattle.std.proofs.Common.{◌<◌, ◌==◌, if◌then◌else◌, Some, None, List, map, fold, length}
+use Rattle.std.proofs.Common.{slice_set}
 use Rattle.aeth_base.specs.declared.ids.NiId.{NiId}
 use Rattle.aeth_ni.specs.declared.write.Write.{Write}
 use Rattle.aeth_ni.specs.declared.write.Write.TheVariants.{ClearSlot, ClearRoute, SetRoute, SetSlot}

@@ -1,16 +1,12 @@
 -- A unit waits no more.
-use Rattle.std.proofs.Common.{◌≡◌, ◌<◌, ◌∙◌, Bool, true, false, eqb}
-use Rattle.std.proofs.Common.{List, Contains, Some, sym, ap, subst, arith, not, set, slice_get}
+use Rattle.std.proofs.Common.{◌≡◌, ◌<◌, ◌∙◌, Bool, true, false, eqb, List, Contains, Some, sym, ap}
+use Rattle.std.proofs.Common.{subst, arith, not, set, slice_get, eq-eqb, eqb-true, length-set}
+use Rattle.std.proofs.lemmas.Bool.{and_from, and_parts, false_from_ne_true, not-true}
 use Rattle.std.specs.List.{items_where_true}
-use Rattle.std.proofs.lemmas.Bool.{and_from, and_parts, eq-eqb, eqb-true, false_from_ne_true}
-use Rattle.std.proofs.lemmas.Bool.{not-true}
-use Rattle.std.proofs.lemmas.List.{length-set}
-use Rattle.aeth_base.specs.declared.ids.Unit.{Unit as GroupUnit}
-use Rattle.aeth_base.proofs.Members.{filter-Contains}
+use Rattle.aeth_base.{specs.declared.ids.Unit.Unit as GroupUnit, proofs.Members.filter-Contains}
 use Rattle.aeth_app.specs.Limits.{max_uses}
-use Rattle.aeth_order.specs.declared.keys.UnitKeys.{UnitKeys}
-use Rattle.aeth_order.specs.Grid.{Falls, IsGrid, IsOrdered, grid_place}
-use Rattle.aeth_order.specs.Units.{is_unit, units_without}
+use Rattle.aeth_order.specs.{declared.keys.UnitKeys.UnitKeys, Grid.Falls, Grid.IsGrid}
+use Rattle.aeth_order.specs.{Grid.IsOrdered, Grid.grid_place, Units.is_unit, Units.units_without}
 use Rattle.aeth_order.proofs.GridLemmas.{marked-cleared, marked-none}
 
 -- The test of a unit tells its place.

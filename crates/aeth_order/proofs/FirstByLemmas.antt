@@ -1,14 +1,12 @@
 -- The first of a list of units by a comparison.
-use Rattle.std.proofs.Common.{◌≡◌, ◌⊎◌, ◌∙◌, cond}
-use Rattle.std.proofs.Common.{List, [], ◌∷◌, Contains, Option, Some, None, refl, sym, ap, inl, inr}
-use Rattle.std.specs.Prelude.{IfSome, fold}
+use Rattle.std.proofs.Common.{◌≡◌, ◌⊎◌, ◌∙◌, cond, List, [], ◌∷◌, Contains, Option, Some, None}
+use Rattle.std.proofs.Common.{refl, sym, ap, inl, inr, IfSome, fold}
+use Rattle.std.proofs.lemmas.Option.{same_Some}
 use Rattle.std.specs.Cmp.{IsTotalOrder}
 use Rattle.std.specs.Ordering.{is_lt, ordering_reverse}
 use Rattle.std.specs.declared.cmp.Ordering.{Ordering}
 use Rattle.std.specs.declared.cmp.Ordering.TheVariants.{Less, Equal, Greater}
-use Rattle.std.proofs.lemmas.Option.{same_Some}
-use Rattle.aeth_order.specs.declared.keys.UnitKeys.{UnitKeys}
-use Rattle.aeth_order.specs.Order.{earlier, first_by}
+use Rattle.aeth_order.specs.{declared.keys.UnitKeys.UnitKeys, Order.earlier, Order.first_by}
 use Rattle.aeth_base.proofs.Members.{Contains-nil, Contains-here, Contains-there, Contains-cases}
 
 -- A unit is the one, or comes after it.

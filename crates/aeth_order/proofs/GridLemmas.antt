@@ -1,13 +1,10 @@
 -- Laws of marked lists: one more place, and one mark less.
 use Rattle.std.proofs.Common.{◌≡◌, ◌≢◌, ◌<◌, ◌∙◌, ◌+◌, ◌++◌, ℕ, zero, suc, Bool, true, false, cond}
-use Rattle.std.proofs.Common.{List, [], ◌∷◌, Contains, Some, refl, sym, ap, subst, inl, inr}
-use Rattle.std.proofs.Common.{arith, filter, length, get_or, map, not, set, slice_get, take}
+use Rattle.std.proofs.Common.{List, [], ◌∷◌, Contains, Some, refl, sym, ap, subst, inl, inr, arith}
+use Rattle.std.proofs.Common.{filter, length, get_or, map, not, set, slice_get, take, append-nil}
+use Rattle.std.proofs.lemmas.{Bool.cases_Bool, Option.same_Some}
 use Rattle.std.specs.List.{items_where_true}
-use Rattle.std.proofs.lemmas.Bool.{cases_Bool}
-use Rattle.std.proofs.lemmas.List.{append-nil}
-use Rattle.aeth_order.specs.declared.keys.UnitKeys.{UnitKeys}
-use Rattle.aeth_order.specs.Units.{UnitsData}
-use Rattle.std.proofs.lemmas.Option.{same_Some}
+use Rattle.aeth_order.specs.{declared.keys.UnitKeys.UnitKeys, Units.UnitsData}
 use Rattle.aeth_app.specs.App.{is_marked}
 use Rattle.aeth_base.proofs.Members.{Contains-nil, Contains-here, Contains-there, Contains-cases}
 

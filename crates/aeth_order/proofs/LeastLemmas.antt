@@ -1,19 +1,17 @@
 -- None that waits comes before the next unit.
-use Rattle.std.proofs.Common.{◌≡◌, ◌∙◌, ◌↔◌, ℕ, cond, List, [], ◌∷◌, Contains, Option, Some}
-use Rattle.std.proofs.Common.{None, refl, sym, ap, subst, inl, inr}
-use Rattle.std.specs.Prelude.{fold, option_map}
+use Rattle.std.proofs.Common.{◌≡◌, ◌∙◌, ◌↔◌, ℕ, cond, List, [], ◌∷◌, Contains, Option, Some, None}
+use Rattle.std.proofs.Common.{refl, sym, ap, subst, inl, inr, fold, option_map}
+use Rattle.std.proofs.lemmas.Option.{none-some, same_Some}
 use Rattle.std.specs.Cmp.{IsTotalOrder, nat_cmp_is}
 use Rattle.std.specs.Ordering.{is_lt, nat_cmp, ordering_reverse, ordering_then}
 use Rattle.std.specs.declared.cmp.Ordering.{Ordering}
 use Rattle.std.specs.declared.cmp.Ordering.TheVariants.{Less, Equal, Greater}
-use Rattle.std.proofs.lemmas.Option.{none-some, same_Some}
 use Rattle.aeth_base.specs.declared.ids.Unit.{Unit as GroupUnit}
 use Rattle.aeth_base.proofs.Members.{Contains-cases, Contains-nil}
 use Rattle.aeth_seats.specs.Places.{Place}
-use Rattle.aeth_order.specs.Order.{earlier, first_by, seat_key, turn_order}
-use Rattle.aeth_order.specs.Turn.{ComesBefore, IsLess, IsNext}
-use Rattle.aeth_order.specs.Units.{UnitsData, next_unit}
-use Rattle.aeth_order.specs.declared.keys.UnitKeys.{UnitKeys}
+use Rattle.aeth_order.specs.{Order.earlier, Order.first_by, Order.seat_key, Order.turn_order}
+use Rattle.aeth_order.specs.{Turn.ComesBefore, Turn.IsLess, Turn.IsNext, Units.UnitsData}
+use Rattle.aeth_order.specs.{Units.next_unit, declared.keys.UnitKeys.UnitKeys}
 use Rattle.aeth_order.proofs.NextLemmas.{first_by-among}
 use Rattle.aeth_order.proofs.TurnLemmas.{itself, same-number, turn_total}
 

@@ -1,25 +1,22 @@
 -- The next unit is the first that waits in their own order, of those with a seated core if there are any.
-use Rattle.std.proofs.Common.{◌≡◌, ◌⊎◌, ◌∙◌, Bool, true, false, cond, eqb}
-use Rattle.std.proofs.Common.{List, [], ◌∷◌, Contains, Option, Some, None, refl, sym, ap, subst}
-use Rattle.std.proofs.Common.{inl, inr, arith, slice_get}
-use Rattle.std.specs.Prelude.{fold}
+use Rattle.std.proofs.Common.{◌≡◌, ◌⊎◌, ◌∙◌, Bool, true, false, cond, eqb, List, [], ◌∷◌, Contains}
+use Rattle.std.proofs.Common.{Option, Some, None, refl, sym, ap, subst, inl, inr, arith, slice_get}
+use Rattle.std.proofs.Common.{fold, eq-eqb, eqb-true}
+use Rattle.std.proofs.lemmas.{Bool.and_from, Bool.and_parts, Option.same_Some}
 use Rattle.std.specs.List.{items_where_true}
 use Rattle.std.specs.Ordering.{is_lt}
 use Rattle.std.specs.declared.cmp.Ordering.{Ordering}
 use Rattle.std.specs.declared.cmp.Ordering.TheVariants.{Less, Equal, Greater}
-use Rattle.std.proofs.lemmas.Bool.{and_from, and_parts, eq-eqb, eqb-true}
-use Rattle.std.proofs.lemmas.Option.{same_Some}
 use Rattle.aeth_app.specs.App.{is_marked}
 use Rattle.aeth_seats.specs.Places.{Place}
 use Rattle.aeth_order.specs.declared.keys.UnitKeys.{UnitKeys}
 use Rattle.aeth_order.specs.Grid.{IsFound, IsOrdered, grid_place, waits, waits_seated}
 use Rattle.aeth_order.specs.Order.{earlier, first_by, seat_key, turn_order, unit_order}
+use Rattle.aeth_order.proofs.{FirstByLemmas.first_by-is, GridLemmas.at-marked, GridLemmas.marked-at}
+use Rattle.aeth_order.proofs.{SortedLemmas.not-earlier, TurnLemmas.after-in_turn}
+use Rattle.aeth_order.proofs.{TurnLemmas.seat_key-cases, TurnLemmas.seated-before}
+use Rattle.aeth_order.proofs.{TurnLemmas.turn_total, TurnLemmas.unit_order-exact}
 use Rattle.aeth_base.proofs.Members.{Contains-here, Contains-there}
-use Rattle.aeth_order.proofs.FirstByLemmas.{first_by-is}
-use Rattle.aeth_order.proofs.GridLemmas.{at-marked, marked-at}
-use Rattle.aeth_order.proofs.SortedLemmas.{not-earlier}
-use Rattle.aeth_order.proofs.TurnLemmas.{after-in_turn, seat_key-cases, seated-before, turn_total}
-use Rattle.aeth_order.proofs.TurnLemmas.{unit_order-exact}
 
 -- A first unit is in its list.
 earlier-among : (a b : UnitKeys) (o : Ordering) (m : UnitKeys) → cond (is_lt o) b a ≡ m

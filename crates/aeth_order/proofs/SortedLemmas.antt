@@ -1,25 +1,18 @@
 -- Units in their own order, the first last: the first that passes a test, and one taken out.
-use Rattle.std.proofs.Common.{◌≡◌, ◌<◌, ◌≤◌, ◌-◌, ◌∙◌, ℕ, Bool, true, false}
-use Rattle.std.proofs.Common.{List, ◌∷◌, Contains, Some, None, sym, ap, inl, inr, arith}
-use Rattle.std.proofs.Common.{get_or, length}
-use Rattle.std.specs.List.{remove}
-use Rattle.std.specs.List.Sorted.{IsPermutation, IsSortedBy}
-use Rattle.std.specs.Ordering.{is_lt, ordering_reverse}
-use Rattle.std.specs.declared.cmp.Ordering.{Ordering}
-use Rattle.std.specs.declared.cmp.Ordering.TheVariants.{Less, Equal, Greater}
+use Rattle.std.proofs.Common.{◌≡◌, ◌<◌, ◌≤◌, ◌-◌, ◌∙◌, ℕ, Bool, true, false, List, ◌∷◌, Contains}
+use Rattle.std.proofs.Common.{Some, None, sym, ap, inl, inr, arith, get_or, length}
 use Rattle.std.proofs.lemmas.Bool.{cases_eq, cases_lt}
 use Rattle.std.proofs.lemmas.List.{get_or_default}
 use Rattle.std.proofs.lemmas.List.Sorted.{Contains-permutation, IsPermutation-remove}
-use Rattle.std.proofs.lemmas.List.Sorted.{IsStrictWeakOrder-flip, ranks_by}
-use Rattle.std.proofs.lemmas.List.Sorted.{sorted_far}
-use Rattle.aeth_base.specs.declared.ids.Unit.{Unit as GroupUnit}
-use Rattle.aeth_base.proofs.Members.{Contains-cases}
-use Rattle.aeth_order.specs.declared.keys.UnitKeys.{UnitKeys}
-use Rattle.aeth_order.specs.Grid.{Falls, IsFound, nobody}
-use Rattle.aeth_order.specs.Order.{unit_order}
-use Rattle.aeth_order.specs.Units.{is_unit}
-use Rattle.aeth_order.proofs.FirstByLemmas.{IsAfter}
-use Rattle.aeth_order.proofs.TurnLemmas.{itself, unit_total}
+use Rattle.std.proofs.lemmas.List.Sorted.{IsStrictWeakOrder-flip, ranks_by, sorted_far}
+use Rattle.std.specs.List.{remove, Sorted.IsPermutation, Sorted.IsSortedBy}
+use Rattle.std.specs.Ordering.{is_lt, ordering_reverse}
+use Rattle.std.specs.declared.cmp.Ordering.{Ordering}
+use Rattle.std.specs.declared.cmp.Ordering.TheVariants.{Less, Equal, Greater}
+use Rattle.aeth_base.{specs.declared.ids.Unit.Unit as GroupUnit, proofs.Members.Contains-cases}
+use Rattle.aeth_order.specs.{declared.keys.UnitKeys.UnitKeys, Grid.Falls, Grid.IsFound, Grid.nobody}
+use Rattle.aeth_order.specs.{Order.unit_order, Units.is_unit}
+use Rattle.aeth_order.proofs.{FirstByLemmas.IsAfter, TurnLemmas.itself, TurnLemmas.unit_total}
 
 -- A list that is sorted backwards falls.
 pub falls-sorted : (units : List UnitKeys) → IsSortedBy (λ a b. is_lt (unit_order b a)) units

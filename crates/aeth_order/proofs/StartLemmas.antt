@@ -1,23 +1,17 @@
 -- The table of units of an application, in which all of them wait.
 use Rattle.std.proofs.Common.{◌≡◌, ◌<◌, ◌≤◌, ◌∙◌, ◌+◌, ◌*◌, ◌/◌, ◌%◌, ◌++◌, ◌&&◌, ℕ, zero, suc}
-use Rattle.std.proofs.Common.{Bool, false, eqb, List, [], ◌∷◌, refl}
-use Rattle.std.proofs.Common.{sym, ap, inl, inr, subst, arith, filter, length, map, slice_get}
-use Rattle.std.specs.Prelude.{All, flat_map}
-use Rattle.std.specs.List.{items_where_true, list_any, range_with_len}
+use Rattle.std.proofs.Common.{Bool, false, eqb, List, [], ◌∷◌, refl, sym, ap, inl, inr, subst}
+use Rattle.std.proofs.Common.{arith, filter, length, map, slice_get, All, flat_map, ne_eqb}
 use Rattle.std.proofs.Math.Nat.{div-add-mod, mod-eq_of_lt, mod-lt, mul-add-mod_self_left}
-use Rattle.std.proofs.lemmas.Bool.{and_left, cases_Bool, ne_eqb, or_from}
-use Rattle.std.proofs.lemmas.List.{flat_map_more, map-append}
-use Rattle.std.proofs.lemmas.List.Elements.{filter-append}
-use Rattle.std.proofs.lemmas.List.Sorted.{Contains-permutation, IsPermutation-sym}
-use Rattle.std.specs.List.Sorted.{IsPermutation}
-use Rattle.std.proofs.lemmas.List.FromFn.{length-map-range_with_len}
-use Rattle.std.proofs.lemmas.Nat.{div-mul-add}
-use Rattle.std.proofs.lemmas.Simd.{map-map}
+use Rattle.std.proofs.lemmas.{Bool.and_left, Bool.cases_Bool, Bool.or_from, List.flat_map_more}
+use Rattle.std.proofs.lemmas.{List.map-append, List.Elements.filter-append}
+use Rattle.std.proofs.lemmas.{List.Sorted.Contains-permutation, List.Sorted.IsPermutation-sym}
+use Rattle.std.proofs.lemmas.{List.FromFn.length-map-range_with_len, Nat.div-mul-add, Simd.map-map}
+use Rattle.std.specs.List.{items_where_true, list_any, range_with_len, Sorted.IsPermutation}
 use Rattle.aeth_base.specs.declared.ids.Unit.{Unit as GroupUnit}
-use Rattle.aeth_base.proofs.Lists.{item-at}
-use Rattle.aeth_base.proofs.Ranges.{map-range-at, range_with_len-more}
-use Rattle.aeth_app.specs.App.{AppData, IsApp, is_marked}
-use Rattle.aeth_app.specs.Limits.{max_uses}
+use Rattle.aeth_base.proofs.{Lists.item-at, Ranges.map-range-at, Ranges.range_with_len-more}
+use Rattle.aeth_base.proofs.{Filters.filter-no, Filters.filter-yes}
+use Rattle.aeth_app.specs.{App.AppData, App.IsApp, App.is_marked, Limits.max_uses}
 use Rattle.aeth_group.specs.Members.{GroupsData, IsGroups, UseGroupData, groups_of, is_member}
 use Rattle.aeth_group.specs.Members.{units_with}
 use Rattle.aeth_group.proofs.MemberLemmas.{connections-groups_of, is_groups-groups_of}
@@ -25,7 +19,6 @@ use Rattle.aeth_order.specs.declared.keys.UnitKeys.{UnitKeys}
 use Rattle.aeth_order.specs.Grid.{Falls, IsGrid, IsOrdered, IsPlaced, grid_of, is_unit_at, marks_of}
 use Rattle.aeth_order.specs.Grid.{places, unit_at}
 use Rattle.aeth_order.specs.Units.{all_units, keys_by, keys_of}
-use Rattle.aeth_base.proofs.Filters.{filter-no, filter-yes}
 use Rattle.aeth_order.proofs.GridLemmas.{marked-at, marked-map}
 
 -- ---- each place has its own unit

@@ -1,13 +1,11 @@
 -- The order of turns: it is total, and what comes later in it by a unit's own order and its first key.
-use Rattle.std.proofs.Common.{◌≡◌, ◌⊎◌, ◌∙◌, ◌||◌, ℕ, cond}
-use Rattle.std.proofs.Common.{List, Option, refl, ap, inl, inr}
+use Rattle.std.proofs.Common.{◌≡◌, ◌⊎◌, ◌∙◌, ◌||◌, ℕ, cond, List, Option, refl, ap, inl, inr}
+use Rattle.std.proofs.lemmas.{Bool.cases_Bool, Cmp.back_total, Cmp.nat_cmp_total, Cmp.on_total}
+use Rattle.std.proofs.lemmas.{Cmp.then_total, Map.Lookups.exact_unsigned}
 use Rattle.std.specs.Cmp.{IsTotalOrder}
 use Rattle.std.specs.Ordering.{nat_cmp, ordering_reverse, ordering_then}
 use Rattle.std.specs.declared.cmp.Ordering.{Ordering}
 use Rattle.std.specs.declared.cmp.Ordering.TheVariants.{Less, Equal, Greater}
-use Rattle.std.proofs.lemmas.Bool.{cases_Bool}
-use Rattle.std.proofs.lemmas.Cmp.{back_total, nat_cmp_total, on_total, then_total}
-use Rattle.std.proofs.lemmas.Map.Lookups.{exact_unsigned}
 use Rattle.aeth_base.proofs.TestLemmas.{then-Equal}
 use Rattle.aeth_seats.specs.Places.{Place}
 use Rattle.aeth_order.specs.declared.keys.UnitKeys.{UnitKeys}

@@ -6,18 +6,15 @@
 --   IsPlaced, IsGrid, IsOrdered      what holds of the table, and of units beside it
 --
 -- This project's own.
-use Rattle.std.specs.Prelude.{◌≡◌, ◌<◌, ℕ, ◌+◌, ◌*◌, ◌/◌, ◌%◌, ◌==◌, ◌&&◌, Bool, true, false, List, length}
-use Rattle.std.specs.Prelude.{map, AllPairs, Contains, Option, Some, None, slice_get}
-use Rattle.std.specs.List.{items_where_true, range_with_len}
-use Rattle.std.specs.Ordering.{is_lt}
+use Rattle.std.proofs.Common.{◌≡◌, ◌<◌, ℕ, ◌+◌, ◌*◌, ◌/◌, ◌%◌, ◌==◌, ◌&&◌, Bool, true, false, List}
+use Rattle.std.proofs.Common.{length, map, AllPairs, Contains, Option, Some, None, slice_get}
+use Rattle.std.specs.{List.items_where_true, List.range_with_len, Ordering.is_lt}
 use Rattle.aeth_base.specs.declared.ids.Unit.{Unit as GroupUnit}
-use Rattle.aeth_app.specs.App.{AppData, is_marked}
-use Rattle.aeth_app.specs.Limits.{max_uses}
+use Rattle.aeth_app.specs.{App.AppData, App.is_marked, Limits.max_uses}
 use Rattle.aeth_group.specs.Members.{GroupsData, is_member}
 use Rattle.aeth_seats.specs.Places.{Place}
-use Rattle.aeth_order.specs.Order.{seat_key, unit_order}
-use Rattle.aeth_order.specs.Units.{keys_of}
-use Rattle.aeth_order.specs.declared.keys.UnitKeys.{UnitKeys}
+use Rattle.aeth_order.specs.{Order.seat_key, Order.unit_order, Units.keys_of}
+use Rattle.aeth_order.specs.{declared.keys.UnitKeys.UnitKeys}
 
 -- How many places there are for so many connections.
 abbrev pub places : ℕ → ℕ

@@ -4,8 +4,7 @@
 --   unit_order, turn_order      the comparison of two units, without the seats and with them
 --   earlier, first_by      the first of a list of units
 -- This project's own.
-use Rattle.std.specs.Prelude.{ℕ, ◌||◌, Bool, List, Option, Some, None, fold, is_some}
-use Rattle.std.specs.Prelude.{if◌then◌else◌}
+use Rattle.std.proofs.Common.{ℕ, ◌||◌, Bool, List, Option, Some, None, fold, is_some, if◌then◌else◌}
 use Rattle.std.specs.Ordering.{flip_args, is_lt, nat_cmp, on, then_cmp}
 use Rattle.std.specs.declared.cmp.Ordering.{Ordering}
 use Rattle.aeth_seats.specs.Places.{Place, seat_of}

@@ -3,12 +3,10 @@
 --   IsLess      a lesser number, or an equal one and what is said behind it
 --   ComesBefore      a unit comes before another in a turn
 --   IsNext      the unit whose turn is next
-use Rattle.std.specs.Prelude.{◌≡◌, ◌<◌, ◌⊎◌, ℕ, List, Option, Contains}
+use Rattle.std.proofs.Common.{◌≡◌, ◌<◌, ◌⊎◌, ℕ, List, Option, Contains}
 use Rattle.aeth_base.specs.declared.ids.Unit.{Unit as GroupUnit}
 use Rattle.aeth_seats.specs.Places.{Place}
-use Rattle.aeth_order.specs.Order.{seat_key}
-use Rattle.aeth_order.specs.Units.{UnitsData}
-use Rattle.aeth_order.specs.declared.keys.UnitKeys.{UnitKeys}
+use Rattle.aeth_order.specs.{Order.seat_key, Units.UnitsData, declared.keys.UnitKeys.UnitKeys}
 
 -- One number is less than another, or they are equal and the rest holds.
 abbrev pub IsLess : ℕ → ℕ → Type 0 → Type 0

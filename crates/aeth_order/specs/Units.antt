@@ -5,17 +5,14 @@
 --   UnitsData, first_units, without_unit      the units that wait: all, and without one
 --   next_unit      the unit whose turn is next
 -- This project's own.
-use Rattle.std.specs.Prelude.{ℕ, ◌+◌, ◌==◌, ◌&&◌, min, not, Bool, List, Option, Some, None, length}
-use Rattle.std.specs.Prelude.{map, filter, slice_get, option_map}
+use Rattle.std.proofs.Common.{ℕ, ◌+◌, ◌==◌, ◌&&◌, min, not, Bool, List, Option, Some, None, length}
+use Rattle.std.proofs.Common.{map, filter, slice_get, option_map}
 use Rattle.aeth_base.specs.declared.ids.Side.TheVariants.{Fwd, Back}
 use Rattle.aeth_base.specs.declared.ids.Unit.{Unit as GroupUnit}
-use Rattle.aeth_app.specs.App.{AppData}
-use Rattle.aeth_app.specs.Rates.{need_of}
-use Rattle.aeth_app.specs.declared.connection.Connection.{Connection}
+use Rattle.aeth_app.specs.{App.AppData, Rates.need_of, declared.connection.Connection.Connection}
 use Rattle.aeth_group.specs.Members.{GroupsData, units_of}
 use Rattle.aeth_seats.specs.Places.{Place}
-use Rattle.aeth_order.specs.Order.{first_by, turn_order}
-use Rattle.aeth_order.specs.declared.keys.UnitKeys.{UnitKeys}
+use Rattle.aeth_order.specs.{Order.first_by, Order.turn_order, declared.keys.UnitKeys.UnitKeys}
 
 -- Whether it is this unit.
 abbrev pub is_unit : GroupUnit → UnitKeys → Bool

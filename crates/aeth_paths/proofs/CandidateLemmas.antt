@@ -1,31 +1,24 @@
 -- Candidates are the paths that are offered, with the slots that go with them; there is one first.
-use Rattle.std.proofs.Common.{◌≡◌, ◌≢◌, ◌∙◌, ℕ, true, false, eqb, List, Contains, None}
-use Rattle.std.proofs.Common.{Some, sym, refl, ap, subst, inl, inr}
+use Rattle.std.proofs.Common.{◌≡◌, ◌≢◌, ◌∙◌, ℕ, true, false, eqb, List, Contains, None, Some, sym}
+use Rattle.std.proofs.Common.{refl, ap, subst, inl, inr, eq-eqb, eqb-true}
+use Rattle.std.proofs.lemmas.Bool.{and_from, and_parts, both_ways, false≢true, false_from_ne_true}
+use Rattle.std.proofs.lemmas.Option.{none-some}
 use Rattle.std.specs.Ordering.{is_lt}
 use Rattle.std.specs.declared.cmp.Ordering.{Ordering}
 use Rattle.std.specs.declared.cmp.Ordering.TheVariants.{Equal, Greater, Less}
-use Rattle.std.proofs.lemmas.Bool.{and_from, and_parts, both_ways, eq-eqb, eqb-true, false≢true}
-use Rattle.std.proofs.lemmas.Bool.{false_from_ne_true}
-use Rattle.aeth_base.specs.declared.ids.LinkId.{LinkId}
-use Rattle.aeth_base.specs.declared.ids.NiId.{NiId}
+use Rattle.aeth_base.specs.declared.ids.{LinkId.LinkId, NiId.NiId}
 use Rattle.aeth_slots.specs.SlotSet.{Slots}
 use Rattle.aeth_slots.proofs.ChoiceLemmas.{chosen-whole, true-is_suitable}
-use Rattle.aeth_book.specs.Book.{BookData}
-use Rattle.aeth_book.specs.Free.{free_starts}
+use Rattle.aeth_book.specs.{Book.BookData, Free.free_starts}
 use Rattle.aeth_group.proofs.ListLemmas.{any_from_passes, passes_from_any}
-use Rattle.aeth_paths.specs.declared.request.Found.{Found}
-use Rattle.aeth_paths.specs.declared.request.Request.{Request}
-use Rattle.aeth_paths.specs.Candidates.{IsAllowed, IsCandidate, IsFirst, gap_on, is_live}
-use Rattle.aeth_paths.specs.Candidates.{path_order, slots_of}
-use Rattle.aeth_paths.specs.Open.{is_crowded}
-use Rattle.aeth_paths.specs.Pairs.{HasEnds, IsOffered, OfferedFrom, Tries}
-use Rattle.aeth_paths.specs.declared.prefix.Task.{Task}
-use Rattle.aeth_paths.specs.Trials.{IsSized}
-use Rattle.aeth_paths.specs.Walk.{IsTask, costs_of}
-use Rattle.aeth_chip.specs.declared.node.Link.{Link}
-use Rattle.aeth_chip.specs.Paths.{IsAdmissible, IsPath}
-use Rattle.std.proofs.lemmas.Option.{none-some}
+use Rattle.aeth_paths.specs.{declared.request.Found.Found, declared.request.Request.Request}
+use Rattle.aeth_paths.specs.{Candidates.IsAllowed, Candidates.IsCandidate, Candidates.IsFirst}
+use Rattle.aeth_paths.specs.{Candidates.gap_on, Candidates.is_live, Candidates.path_order}
+use Rattle.aeth_paths.specs.{Candidates.slots_of, Open.is_crowded, Pairs.HasEnds, Pairs.IsOffered}
+use Rattle.aeth_paths.specs.{Pairs.OfferedFrom, Pairs.Tries, declared.prefix.Task.Task}
+use Rattle.aeth_paths.specs.{Trials.IsSized, Walk.IsTask, Walk.costs_of}
 use Rattle.aeth_paths.proofs.LiveLemmas.{free_starts-set, sized}
+use Rattle.aeth_chip.specs.{declared.node.Link.Link, Paths.IsAdmissible, Paths.IsPath}
 
 one-ni : (a b : NiId) → a.0 ≡ b.0 → a ≡ b
 one-ni a b same = ap (λ n. record { 0 = n }) same

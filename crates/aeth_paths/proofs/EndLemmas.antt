@@ -1,23 +1,20 @@
 -- The ends of a path, and the slots that go with it.
-use Rattle.std.proofs.Common.{◌≡◌, ◌∙◌, ◌-◌, ◌<◌, ◌≤◌, ◌&&◌, ℕ, suc, List, []}
-use Rattle.std.proofs.Common.{◌∷◌, length, max, filter, leb, All, Some, slice_get, sym, ap}
-use Rattle.std.proofs.Common.{subst, arith, get_or}
-use Rattle.std.proofs.lemmas.Bool.{and_from, and_parts, le-leb, leb-true}
-use Rattle.std.proofs.lemmas.List.Elements.{Contains-get_or}
-use Rattle.std.proofs.lemmas.List.Sums.{sum_by-cons}
+use Rattle.std.proofs.Common.{◌≡◌, ◌∙◌, ◌-◌, ◌<◌, ◌≤◌, ◌&&◌, ℕ, suc, List, [], ◌∷◌, length, max}
+use Rattle.std.proofs.Common.{filter, leb, All, Some, slice_get, sym, ap, subst, arith, get_or}
+use Rattle.std.proofs.Common.{le-leb, leb-true}
+use Rattle.std.proofs.lemmas.Bool.{and_from, and_parts}
+use Rattle.std.proofs.lemmas.List.{Elements.Contains-get_or, Sums.sum_by-cons}
 use Rattle.std.proofs.lemmas.Option.{same_Some, slice_get-get_or, slice_get_within}
-use Rattle.aeth_base.specs.declared.ids.LinkId.{LinkId}
-use Rattle.aeth_base.specs.declared.ids.NiId.{NiId}
+use Rattle.aeth_base.specs.declared.ids.{LinkId.LinkId, NiId.NiId}
 use Rattle.aeth_chip.specs.declared.node.Link.{Link}
-use Rattle.aeth_chip.specs.declared.node.Node.{Node}
-use Rattle.aeth_chip.specs.declared.node.Node.TheVariants.{Ni, Router}
+use Rattle.aeth_chip.specs.declared.node.Node.{Node, TheVariants.Ni, TheVariants.Router}
 use Rattle.aeth_chip.specs.Chip.{ChipData, IsChip, IsNode}
 use Rattle.aeth_chip.specs.Joined.{end_of}
 use Rattle.aeth_chip.specs.Paths.{BeginsAt, IsPath, delay_in, delay_of, path_delay, to_of}
 use Rattle.aeth_chip.proofs.JoinedLaws.{end_of-ends, joined-each, joins-length}
 use Rattle.aeth_slots.specs.SlotSet.{Slots, gap_of}
-use Rattle.aeth_group.proofs.ListLemmas.{same_tests}
 use Rattle.aeth_slots.specs.Choice.{choice_order, chosen, first_by, is_suitable, subsets}
+use Rattle.aeth_group.proofs.ListLemmas.{same_tests}
 
 -- All links of a path are links of the chip.
 pub path-all : (links : List Link) (a b : NiId) (path : List LinkId) → IsPath links a b path

@@ -1,27 +1,22 @@
 -- The last link of a path, and paths that are dead by it alone.
 use Rattle.std.proofs.Common.{◌≡◌, ◌∙◌, ◌↔◌, ◌+◌, ◌-◌, ◌%◌, ◌<◌, ◌≤◌, ◌++◌, ℕ, Bool, true, false}
 use Rattle.std.proofs.Common.{IsTrue, not, List, [], ◌∷◌, Contains, length, take, get_or, Some}
-use Rattle.std.proofs.Common.{slice_get, refl, sym, ap, subst, inl, inr, arith}
+use Rattle.std.proofs.Common.{slice_get, refl, sym, ap, subst, inl, inr, arith, take_all}
 use Rattle.std.proofs.Math.Nat.{mod-eq_of_lt, mod-lt}
 use Rattle.std.proofs.lemmas.Bool.{and_from, and_parts, both_ways, false_from_ne_true}
-use Rattle.std.proofs.lemmas.List.{take_all, take_more}
-use Rattle.std.proofs.lemmas.List.Elements.{Contains-get_or}
+use Rattle.std.proofs.lemmas.List.{take_more, Elements.Contains-get_or}
 use Rattle.std.proofs.lemmas.Option.{slice_get-get_or}
-use Rattle.aeth_base.specs.declared.ids.LinkId.{LinkId}
-use Rattle.aeth_base.specs.declared.ids.NiId.{NiId}
-use Rattle.aeth_base.specs.declared.ids.Unit.{Unit as GroupUnit}
-use Rattle.aeth_base.proofs.Members.{Contains-cases, Contains-nil, Contains-some}
-use Rattle.aeth_chip.specs.declared.node.Link.{Link}
-use Rattle.aeth_chip.specs.declared.node.Node.TheVariants.{Ni}
+use Rattle.aeth_base.specs.declared.ids.{LinkId.LinkId, NiId.NiId, Unit.Unit as GroupUnit}
+use Rattle.aeth_base.proofs.{Members.Contains-cases, Members.Contains-nil, Members.Contains-some}
+use Rattle.aeth_base.proofs.{Members.Contains-slice_get, TestLemmas.true_from_IsTrue}
+use Rattle.aeth_chip.specs.declared.node.{Link.Link, Node.TheVariants.Ni}
 use Rattle.aeth_chip.specs.Chip.{ChipData, IsChip, IsNode}
 use Rattle.aeth_chip.specs.Nodes.{ends_at, receives_on}
 use Rattle.aeth_chip.specs.Paths.{BeginsAt, IsPath, path_delay, to_of}
 use Rattle.aeth_chip.proofs.JoinedLaws.{joined-each}
 use Rattle.aeth_chip.proofs.NodeLemmas.{numbers_from-at, same_node-refl}
-use Rattle.aeth_slots.specs.Choice.{IsSuitable}
-use Rattle.aeth_slots.specs.SlotSet.{Slots, gap_of}
-use Rattle.aeth_slots.proofs.ChoiceLemmas.{is_suitable-true}
-use Rattle.aeth_slots.proofs.TestLemmas.{Contains-where}
+use Rattle.aeth_slots.specs.{Choice.IsSuitable, SlotSet.Slots, SlotSet.gap_of}
+use Rattle.aeth_slots.proofs.{ChoiceLemmas.is_suitable-true, TestLemmas.Contains-where}
 use Rattle.aeth_server.proofs.SingleWord.{HasSlot, has-slot}
 use Rattle.aeth_book.specs.Book.{BookData, IsBook}
 use Rattle.aeth_book.specs.Free.{free_starts, is_open, is_taken}
@@ -29,8 +24,6 @@ use Rattle.aeth_book.proofs.FreeLemmas.{is_clear, is_open-push}
 use Rattle.aeth_paths.specs.declared.request.Request.{Request}
 use Rattle.aeth_paths.specs.Candidates.{gap_on, is_live}
 use Rattle.aeth_paths.proofs.EndLemmas.{path-all, path-delay-some, path-last, path-some}
-use Rattle.aeth_base.proofs.Members.{Contains-slice_get}
-use Rattle.aeth_base.proofs.TestLemmas.{true_from_IsTrue}
 use Rattle.aeth_paths.proofs.LiveLemmas.{free_starts-set, sized}
 use Rattle.aeth_paths.proofs.NearLemmas.{gap-near, moved-comes}
 

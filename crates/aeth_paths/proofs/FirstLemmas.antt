@@ -1,19 +1,14 @@
 -- Laws of the first of a list, and of the three causes for which a list is given up.
-use Rattle.std.proofs.Common.{◌≡◌, ◌⊎◌, ◌∙◌, ◌++◌, ℕ, Bool, true, false}
-use Rattle.std.proofs.Common.{cond, List, [], ◌∷◌, length, Contains, Option, Some}
-use Rattle.std.proofs.Common.{None, sym, refl, ap, subst, inl, inr}
-use Rattle.std.specs.Ordering.{is_lt}
-use Rattle.std.specs.Cmp.{IsStrictWeakOrder, IsTotalOrder}
-use Rattle.std.specs.Prelude.{sum_by, map}
-use Rattle.std.proofs.lemmas.Bool.{cond-true}
-use Rattle.std.proofs.lemmas.Cmp.{nat_cmp_total, nat_list_cmp_total, on_total, then_total}
-use Rattle.std.proofs.lemmas.List.MinMax.{ranks_by}
-use Rattle.std.proofs.lemmas.Option.{same_Some}
+use Rattle.std.proofs.Common.{◌≡◌, ◌⊎◌, ◌∙◌, ◌++◌, ℕ, Bool, true, false, cond, List, [], ◌∷◌}
+use Rattle.std.proofs.Common.{length, Contains, Option, Some, None, sym, refl, ap, subst, inl, inr}
+use Rattle.std.proofs.Common.{sum_by, map}
+use Rattle.std.proofs.lemmas.{Bool.cond-true, Cmp.nat_cmp_total, Cmp.nat_list_cmp_total}
+use Rattle.std.proofs.lemmas.{Cmp.on_total, Cmp.then_total, List.MinMax.ranks_by, Option.same_Some}
+use Rattle.std.specs.{Ordering.is_lt, Cmp.IsStrictWeakOrder, Cmp.IsTotalOrder}
 use Rattle.aeth_base.specs.declared.ids.LinkId.{LinkId}
 use Rattle.aeth_base.proofs.Members.{Contains-nil, Contains-here, Contains-there, Contains-cases}
-use Rattle.aeth_paths.specs.Candidates.{path_order}
-use Rattle.aeth_paths.specs.Pairs.{NotBeaten}
-use Rattle.aeth_paths.specs.Search.{Field, better, first_from, is_better, is_candidate, keep}
+use Rattle.aeth_paths.specs.{Candidates.path_order, Pairs.NotBeaten, Search.Field, Search.better}
+use Rattle.aeth_paths.specs.{Search.first_from, Search.is_better, Search.is_candidate, Search.keep}
 
 -- Where the first and then the second list are gone over, their whole is.
 pub first_from-append : (f : Field) (best : Option (List LinkId)) (xs ys : List (List LinkId))

@@ -1,21 +1,16 @@
 -- The three causes for which a list is given up: no path that goes on from it changes the best.
-use Rattle.std.proofs.Common.{◌≡◌, ◌∙◌, ◌+◌, ◌<◌, ◌≤◌, ◌++◌, ℕ, Bool, true, false, cond, leb}
-use Rattle.std.proofs.Common.{List, [], ◌∷◌, length, Contains, Option, Some, sym, refl, subst}
-use Rattle.std.proofs.Common.{arith}
-use Rattle.std.proofs.Common.{length-append}
-use Rattle.std.specs.Prelude.{sum_by}
-use Rattle.std.proofs.lemmas.Bool.{and_left, and_parts, and_right, cond-false, leb-true, lt-leb}
+use Rattle.std.proofs.Common.{◌≡◌, ◌∙◌, ◌+◌, ◌<◌, ◌≤◌, ◌++◌, ℕ, Bool, true, false, cond, leb, List}
+use Rattle.std.proofs.Common.{[], ◌∷◌, length, Contains, Option, Some, sym, refl, subst, arith}
+use Rattle.std.proofs.Common.{length-append, sum_by, leb-true}
+use Rattle.std.proofs.lemmas.Bool.{and_left, and_parts, and_right, cond-false, lt-leb}
 use Rattle.std.proofs.lemmas.List.Sums.{sum_by-append, sum_by-cons}
 use Rattle.aeth_base.specs.declared.ids.LinkId.{LinkId}
-use Rattle.aeth_chip.specs.Joined.{IsJoined}
-use Rattle.aeth_chip.specs.declared.node.Node.{Node}
-use Rattle.aeth_paths.specs.Least.{PathsCost}
-use Rattle.aeth_paths.specs.Search.{Field, Walks, better, completions, is_better}
-use Rattle.aeth_paths.specs.Search.{is_candidate, keep}
-use Rattle.aeth_paths.specs.Walk.{GainsNothing, is_before}
-use Rattle.aeth_paths.proofs.FirstLemmas.{first_from-stays}
-use Rattle.aeth_paths.proofs.OrderLemmas.{better-before}
-use Rattle.aeth_paths.proofs.WalkLemmas.{completion-walks}
+use Rattle.aeth_chip.specs.{Joined.IsJoined, declared.node.Node.Node}
+use Rattle.aeth_paths.specs.{Least.PathsCost, Search.Field, Search.Walks, Search.better}
+use Rattle.aeth_paths.specs.{Search.completions, Search.is_better, Search.is_candidate, Search.keep}
+use Rattle.aeth_paths.specs.{Walk.GainsNothing, Walk.is_before}
+use Rattle.aeth_paths.proofs.{FirstLemmas.first_from-stays, OrderLemmas.better-before}
+use Rattle.aeth_paths.proofs.{WalkLemmas.completion-walks}
 
 -- Each link that leaves a node costs something.
 abbrev pub AllCost : Field → Type 0

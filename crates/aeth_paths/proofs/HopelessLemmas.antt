@@ -1,35 +1,24 @@
 -- Why a list is given up, from least distances and costs, and why else it is open.
-use Rattle.std.proofs.Common.{◌≡◌, ◌∙◌, ◌+◌, ◌++◌, ◌≤◌, ℕ, true, false, List, []}
-use Rattle.std.specs.Prelude.{sum_by}
-use Rattle.std.proofs.Common.{◌∷◌, length, Contains, Option, None, Some, slice_get, sym, ap}
-use Rattle.std.proofs.Common.{subst, inl}
-use Rattle.std.proofs.Common.{inr, arith}
-use Rattle.std.proofs.lemmas.Bool.{and_from, le-leb}
-use Rattle.std.proofs.lemmas.Option.{same_Some}
-use Rattle.aeth_base.specs.declared.ids.LinkId.{LinkId}
-use Rattle.aeth_base.specs.declared.ids.NiId.{NiId}
+use Rattle.std.proofs.Common.{◌≡◌, ◌∙◌, ◌+◌, ◌++◌, ◌≤◌, ℕ, true, false, List, [], sum_by, ◌∷◌}
+use Rattle.std.proofs.Common.{length, Contains, Option, None, Some, slice_get, sym, ap, subst, inl}
+use Rattle.std.proofs.Common.{inr, arith, le-leb}
+use Rattle.std.proofs.lemmas.{Bool.and_from, Option.same_Some}
+use Rattle.aeth_base.specs.declared.ids.{LinkId.LinkId, NiId.NiId}
+use Rattle.aeth_base.proofs.Members.{Contains-cases, Contains-nil}
 use Rattle.aeth_chip.specs.declared.node.Link.{Link}
-use Rattle.aeth_chip.specs.declared.node.Node.{Node}
-use Rattle.aeth_chip.specs.declared.node.Node.TheVariants.{Ni, Router}
+use Rattle.aeth_chip.specs.declared.node.Node.{Node, TheVariants.Ni, TheVariants.Router}
 use Rattle.aeth_chip.specs.Chip.{ChipData, IsChip, IsNode}
 use Rattle.aeth_chip.specs.Paths.{IsLinkFrom, delay_in, to_of}
 use Rattle.aeth_chip.specs.LeastOnward.{least_from}
 use Rattle.aeth_chip.proofs.LeastDistanceLemmas.{distance_is_least_distance}
 use Rattle.aeth_chip.proofs.LeastOnwardLemmas.{distance_is_least_onward}
-use Rattle.aeth_base.proofs.Members.{Contains-cases, Contains-nil}
-use Rattle.aeth_book.specs.Book.{BookData, IsBook}
-use Rattle.aeth_book.proofs.UseLemmas.{used_slots-within}
-use Rattle.aeth_paths.specs.declared.request.Request.{Request}
-use Rattle.aeth_paths.specs.Costs.{AreCosts}
-use Rattle.aeth_paths.specs.Least.{PathsCost}
-use Rattle.aeth_paths.specs.Open.{is_near, is_open}
-use Rattle.aeth_paths.specs.Search.{Field, Walks}
-use Rattle.aeth_paths.specs.Task.{field}
-use Rattle.aeth_paths.specs.declared.search.Goal.{Goal}
-use Rattle.aeth_paths.specs.declared.priced.Priced.{Priced}
-use Rattle.aeth_paths.specs.declared.prefix.Task.{Task}
-use Rattle.aeth_paths.specs.Walk.{GainsNothing, IsLeastFrom, IsTask, Stands, costs_of, field_of}
-use Rattle.aeth_paths.specs.Walk.{is_before, path_in, priced}
+use Rattle.aeth_book.{specs.Book.BookData, specs.Book.IsBook, proofs.UseLemmas.used_slots-within}
+use Rattle.aeth_paths.specs.{declared.request.Request.Request, Costs.AreCosts, Least.PathsCost}
+use Rattle.aeth_paths.specs.{Open.is_near, Open.is_open, Search.Field, Search.Walks, Task.field}
+use Rattle.aeth_paths.specs.{declared.search.Goal.Goal, declared.priced.Priced.Priced}
+use Rattle.aeth_paths.specs.{declared.prefix.Task.Task, Walk.GainsNothing, Walk.IsLeastFrom}
+use Rattle.aeth_paths.specs.{Walk.IsTask, Walk.Stands, Walk.costs_of, Walk.field_of, Walk.is_before}
+use Rattle.aeth_paths.specs.{Walk.path_in, Walk.priced}
 use Rattle.aeth_paths.proofs.GiveUpLemmas.{AllCost, fewest-cost, outdone-none}
 use Rattle.aeth_paths.proofs.JoinLemmas.{begins-sent, leaving-begins, onward-from-walk}
 use Rattle.aeth_paths.proofs.JoinLemmas.{route-from-walk}

@@ -1,21 +1,16 @@
 -- What walks on to an interface are the joined links through distinct new routers.
 use Rattle.std.proofs.Common.{◌≡◌, ◌⊎◌, ◌∙◌, ◌+◌, ◌++◌, ◌≤◌, ◌||◌, ℕ, Bool, true, false, List, []}
-use Rattle.std.proofs.Common.{◌∷◌, length, map, Contains, Some, slice_get, sym, refl, ap, subst, inl}
-use Rattle.std.proofs.Common.{inr, arith}
-use Rattle.std.proofs.lemmas.Bool.{and_parts, both_ways, eqb-true, false≢true, not-true}
-use Rattle.std.proofs.lemmas.Bool.{false_from_ne_true, or_from, or_parts, or_right}
-use Rattle.std.proofs.lemmas.List.Folds.{list_any-append}
-use Rattle.std.proofs.lemmas.Option.{slice_get-get_or}
+use Rattle.std.proofs.Common.{◌∷◌, length, map, Contains, Some, slice_get, sym, refl, ap, subst}
+use Rattle.std.proofs.Common.{inl, inr, arith, eqb-true}
+use Rattle.std.proofs.lemmas.{Bool.and_parts, Bool.both_ways, Bool.false≢true, Bool.not-true}
+use Rattle.std.proofs.lemmas.{Bool.false_from_ne_true, Bool.or_from, Bool.or_parts, Bool.or_right}
+use Rattle.std.proofs.lemmas.{List.Folds.list_any-append, Option.slice_get-get_or}
 use Rattle.aeth_base.proofs.Lists.{map-nil}
-use Rattle.aeth_base.proofs.Members.{Contains-slice_get}
-use Rattle.aeth_base.specs.declared.ids.LinkId.{LinkId}
-use Rattle.aeth_base.specs.declared.ids.NiId.{NiId}
-use Rattle.aeth_base.specs.declared.ids.RouterId.{RouterId}
-use Rattle.aeth_base.proofs.Members.{Contains-nil, Contains-here, Contains-there, Contains-cases}
-use Rattle.aeth_base.proofs.Members.{Contains-map, map-Contains}
+use Rattle.aeth_base.proofs.Members.{Contains-slice_get, Contains-nil, Contains-here}
+use Rattle.aeth_base.proofs.Members.{Contains-there, Contains-cases, Contains-map, map-Contains}
+use Rattle.aeth_base.specs.declared.ids.{LinkId.LinkId, NiId.NiId, RouterId.RouterId}
 use Rattle.aeth_chip.specs.declared.node.Link.{Link}
-use Rattle.aeth_chip.specs.declared.node.Node.{Node}
-use Rattle.aeth_chip.specs.declared.node.Node.TheVariants.{Ni, Router}
+use Rattle.aeth_chip.specs.declared.node.Node.{Node, TheVariants.Ni, TheVariants.Router}
 use Rattle.aeth_chip.specs.Nodes.{begins_at, is_router, same_node, sends_on}
 use Rattle.aeth_chip.specs.Paths.{AreDistinct, BeginsAt, IsLinkFrom, IsOnward, IsPath, Joins, to_in}
 use Rattle.aeth_chip.specs.Paths.{to_of}
@@ -23,9 +18,8 @@ use Rattle.aeth_chip.proofs.JoinedLaws.{joined-by, joins-last, joins-none}
 use Rattle.aeth_chip.proofs.NodeLemmas.{numbers_from-at, same_node-refl, same_node-true}
 use Rattle.aeth_chip.proofs.NodeLemmas.{sends_on-found}
 use Rattle.aeth_book.specs.Book.{BookData}
-use Rattle.aeth_paths.specs.declared.request.Request.{Request}
-use Rattle.aeth_paths.specs.Search.{Field, Walks, is_new, passes}
-use Rattle.aeth_paths.specs.Task.{field, links_from}
+use Rattle.aeth_paths.specs.{declared.request.Request.Request, Search.Field, Search.Walks}
+use Rattle.aeth_paths.specs.{Search.is_new, Search.passes, Task.field, Task.links_from}
 
 -- ---- the links that leave a node
 

@@ -1,25 +1,20 @@
 -- Tables of least costs: what an entry tells, and that a further one may be put in.
-use Rattle.std.proofs.Common.{◌≡◌, ◌∙◌, ◌+◌, ◌-◌, ◌*◌, ◌/◌, ◌%◌, ◌<◌, ◌≤◌, ◌++◌, ℕ, true, List, [], ◌∷◌}
-use Rattle.std.proofs.Common.{Contains, Some, slice_get}
-use Rattle.std.proofs.Common.{get_or, get_or-set_other, get_or-set_same, length, length-append, map}
-use Rattle.std.proofs.Common.{replicate, set, refl, sym, ap, subst, inl, inr, arith}
-use Rattle.std.specs.Prelude.{sum_by}
+use Rattle.std.proofs.Common.{◌≡◌, ◌∙◌, ◌+◌, ◌-◌, ◌*◌, ◌/◌, ◌%◌, ◌<◌, ◌≤◌, ◌++◌, ℕ, true, List, []}
+use Rattle.std.proofs.Common.{◌∷◌, Contains, Some, slice_get, get_or, get_or-set_other}
+use Rattle.std.proofs.Common.{get_or-set_same, length, length-append, map, replicate, set, refl}
+use Rattle.std.proofs.Common.{sym, ap, subst, inl, inr, arith, sum_by}
 use Rattle.std.proofs.lemmas.Bool.{and_parts, cases_eq, cases_lt, false≢true, or_right}
 use Rattle.std.proofs.lemmas.List.{get_or-replicate, get_or_past, length-replicate}
-use Rattle.std.proofs.lemmas.Option.{slice_get-get_or}
 use Rattle.std.proofs.lemmas.List.Sums.{sum_by-append, sum_by-cons}
-use Rattle.aeth_base.specs.declared.ids.LinkId.{LinkId}
-use Rattle.aeth_base.specs.declared.ids.NiId.{NiId}
-use Rattle.aeth_base.specs.declared.ids.RouterId.{RouterId}
+use Rattle.std.proofs.lemmas.Option.{slice_get-get_or}
+use Rattle.aeth_base.specs.declared.ids.{LinkId.LinkId, NiId.NiId, RouterId.RouterId}
 use Rattle.aeth_chip.specs.Limits.{max_routers}
 use Rattle.aeth_chip.specs.Nodes.{is_router, same_node}
+use Rattle.aeth_chip.specs.declared.node.Node.{Node, TheVariants.Ni, TheVariants.Router}
 use Rattle.aeth_chip.proofs.NodeLemmas.{same_node-refl}
-use Rattle.aeth_chip.specs.declared.node.Node.{Node}
-use Rattle.aeth_chip.specs.declared.node.Node.TheVariants.{Ni, Router}
-use Rattle.aeth_paths.specs.Least.{AreLeast, AreWithin, CostsAtLeast, NoneWalks, OverCosts}
-use Rattle.aeth_paths.specs.Least.{PathsCost}
-use Rattle.aeth_paths.specs.Search.{Field, Walks, passes, turn_of}
-use Rattle.aeth_paths.specs.declared.search.Turn.TheVariants.{Goes}
+use Rattle.aeth_paths.specs.{Least.AreLeast, Least.AreWithin, Least.CostsAtLeast, Least.NoneWalks}
+use Rattle.aeth_paths.specs.{Least.OverCosts, Least.PathsCost, Search.Field, Search.Walks}
+use Rattle.aeth_paths.specs.{Search.passes, Search.turn_of, declared.search.Turn.TheVariants.Goes}
 use Rattle.aeth_paths.proofs.JoinLemmas.{passes-push, walks-first, walks-none}
 use Rattle.aeth_paths.proofs.WalkLemmas.{turn-goes}
 

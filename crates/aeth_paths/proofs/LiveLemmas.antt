@@ -1,27 +1,24 @@
 -- A list of links whose free starts are dead stays so, however it goes on.
-use Rattle.std.proofs.Common.{◌≡◌, ◌∙◌, ◌+◌, ◌≤◌, ◌++◌, ◌%◌, ℕ, Bool, true, false, cond, not}
-use Rattle.std.proofs.Common.{List, [], ◌∷◌, filter, Contains, sym, ap, subst, arith}
-use Rattle.std.proofs.Common.{append_assoc, length, leb, max, IsTrue, ◌↔◌}
-use Rattle.std.proofs.lemmas.Bool.{both_ways, false_from_ne_true, le-leb, leb-true}
-use Rattle.std.proofs.lemmas.List.{append-nil}
+use Rattle.std.proofs.Common.{◌≡◌, ◌∙◌, ◌+◌, ◌≤◌, ◌++◌, ◌%◌, ℕ, Bool, true, false, cond, not, List}
+use Rattle.std.proofs.Common.{[], ◌∷◌, filter, Contains, sym, ap, subst, arith, append_assoc}
+use Rattle.std.proofs.Common.{length, leb, max, IsTrue, ◌↔◌, le-leb, leb-true, append-nil}
+use Rattle.std.proofs.lemmas.Bool.{both_ways, false_from_ne_true}
 use Rattle.std.proofs.lemmas.List.Sums.{sum_by-append, sum_by-cons}
-use Rattle.aeth_base.specs.declared.ids.LinkId.{LinkId}
+use Rattle.aeth_base.{specs.declared.ids.LinkId.LinkId, proofs.Members.Contains-map}
+use Rattle.aeth_base.{proofs.TestLemmas.IsTrue_from_true, proofs.TestLemmas.true_from_IsTrue}
 use Rattle.aeth_chip.specs.Paths.{delay_of, path_delay}
-use Rattle.aeth_slots.specs.SlotSet.{Ascends, IsSlotSet, Slots, cyclic_distances}
-use Rattle.aeth_slots.specs.SlotSet.{distances, gap_of, greatest}
-use Rattle.aeth_group.proofs.ListLemmas.{same_tests}
+use Rattle.aeth_slots.specs.SlotSet.{Ascends, IsSlotSet, Slots, cyclic_distances, distances, gap_of}
+use Rattle.aeth_slots.specs.SlotSet.{greatest}
 use Rattle.aeth_slots.specs.Choice.{IsSuitable, is_suitable, sublists}
 use Rattle.aeth_slots.proofs.ChoiceLemmas.{is_suitable-true, true-is_suitable, whole-suitable}
-use Rattle.aeth_base.proofs.Members.{Contains-map}
-use Rattle.aeth_base.proofs.TestLemmas.{IsTrue_from_true, true_from_IsTrue}
 use Rattle.aeth_slots.proofs.Sublists.{sublists-itself, sublists-with, sublists-without}
 use Rattle.aeth_slots.proofs.TestLemmas.{Ascends-where}
+use Rattle.aeth_group.proofs.ListLemmas.{same_tests}
 use Rattle.aeth_book.specs.Book.{BookData, IsBook}
 use Rattle.aeth_book.specs.Free.{free_starts, is_open, is_taken, narrowed}
 use Rattle.aeth_book.proofs.FreeLemmas.{free-push}
-use Rattle.aeth_paths.specs.declared.request.Request.{Request}
-use Rattle.aeth_paths.specs.Candidates.{gap_on, is_live}
-use Rattle.aeth_paths.specs.Trials.{IsSized}
+use Rattle.aeth_paths.specs.{declared.request.Request.Request, Candidates.gap_on}
+use Rattle.aeth_paths.specs.{Candidates.is_live, Trials.IsSized}
 
 -- The tables of a book are sized.
 pub sized : (book : BookData) → IsBook book → IsSized book

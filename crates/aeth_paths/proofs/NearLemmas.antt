@@ -1,15 +1,14 @@
 -- Slots that come within a gap, and the same slots so many cycles later.
-use Rattle.std.proofs.Common.{ℕ, ◌+◌, ◌-◌, ◌*◌, ◌/◌, ◌%◌, ◌<◌, ◌≤◌, ◌≡◌, ◌∙◌, true, eqb}
-use Rattle.std.proofs.Common.{List, [], ◌∷◌, Contains, sym, ap, subst, inl, inr, arith}
+use Rattle.std.proofs.Common.{ℕ, ◌+◌, ◌-◌, ◌*◌, ◌/◌, ◌%◌, ◌<◌, ◌≤◌, ◌≡◌, ◌∙◌, true, eqb, List, []}
+use Rattle.std.proofs.Common.{◌∷◌, Contains, sym, ap, subst, inl, inr, arith, eqb-true}
 use Rattle.std.proofs.Math.Nat.{add-mod_right, add-mul-mod_self_left, div-add-mod, mod-add-mod}
 use Rattle.std.proofs.Math.Nat.{mod-eq_of_lt, mod-lt}
-use Rattle.std.proofs.lemmas.Bool.{cases_lt, eqb-true}
+use Rattle.std.proofs.lemmas.Bool.{cases_lt}
 use Rattle.aeth_base.proofs.Members.{Contains-cases, Contains-nil}
-use Rattle.aeth_slots.specs.SlotSet.{Ascends, IsSlotSet, Slots, cyclic_distances, distances}
-use Rattle.aeth_slots.specs.SlotSet.{gap_of, greatest}
+use Rattle.aeth_slots.specs.SlotSet.{Ascends, IsSlotSet, Slots, cyclic_distances, distances, gap_of}
+use Rattle.aeth_slots.specs.SlotSet.{greatest}
 use Rattle.aeth_slots.proofs.Ascending.{Ascends-bounds}
-use Rattle.aeth_server.specs.SlotCycles.{is_slot}
-use Rattle.aeth_server.proofs.SingleWord.{HasSlot}
+use Rattle.aeth_server.{specs.SlotCycles.is_slot, proofs.SingleWord.HasSlot}
 use Rattle.aeth_group.proofs.ListLemmas.{passes_from_any}
 
 -- From a cycle on some slot comes within the gap.

@@ -1,14 +1,12 @@
 -- Lists of interfaces, each once: a further one that stands in the list before adds nothing.
-use Rattle.std.proofs.Common.{◌≡◌, ◌∙◌, ◌+◌, ◌<◌, ◌≤◌, ◌++◌, ℕ, suc, All, Bool, true, false, cond, ◌||◌, List, []}
-use Rattle.std.proofs.Common.{◌∷◌}
-use Rattle.std.proofs.Common.{Contains, filter, not, eqb, get_or, length, take, sym, ap, subst, inl}
-use Rattle.std.proofs.Common.{inr, arith, refl}
+use Rattle.std.proofs.Common.{◌≡◌, ◌∙◌, ◌+◌, ◌<◌, ◌≤◌, ◌++◌, ℕ, suc, All, Bool, true, false, cond}
+use Rattle.std.proofs.Common.{◌||◌, List, [], ◌∷◌, Contains, filter, not, eqb, get_or, length, take}
+use Rattle.std.proofs.Common.{sym, ap, subst, inl, inr, arith, refl, sum_by, eq-eqb, eqb-true}
+use Rattle.std.proofs.Common.{ne_eqb, append-nil}
+use Rattle.std.proofs.lemmas.Bool.{cases_Bool, false≢true, or_from}
+use Rattle.std.proofs.lemmas.List.{take_more, Elements.All-push, Elements.All-weaker}
+use Rattle.std.proofs.lemmas.List.{Elements.filter-append, Sums.sum_by-append, Sums.sum_by-cons}
 use Rattle.std.specs.List.{list_any}
-use Rattle.std.specs.Prelude.{sum_by}
-use Rattle.std.proofs.lemmas.Bool.{cases_Bool, eq-eqb, eqb-true, false≢true, ne_eqb, or_from}
-use Rattle.std.proofs.lemmas.List.{append-nil, take_more}
-use Rattle.std.proofs.lemmas.List.Elements.{All-push, All-weaker, filter-append}
-use Rattle.std.proofs.lemmas.List.Sums.{sum_by-append, sum_by-cons}
 use Rattle.aeth_base.specs.declared.ids.NiId.{NiId}
 use Rattle.aeth_group.proofs.ListLemmas.{passes_from_any}
 use Rattle.aeth_paths.specs.Open.{each_once}

@@ -1,30 +1,24 @@
 -- The test of open lists decides: links that are joined and end at distinct routers, live unless
 -- there are none, and near enough to the goal.
-use Rattle.std.proofs.Common.{◌≡◌, ◌∙◌, ◌+◌, ◌++◌, ◌≤◌, ◌&&◌, ◌||◌, ℕ, true, false, List, []}
-use Rattle.std.proofs.Common.{◌∷◌, Contains, Option, Some, None, length, map, not, refl, sym, ap}
-use Rattle.std.proofs.Common.{slice_get, subst, inl, inr}
+use Rattle.std.proofs.Common.{◌≡◌, ◌∙◌, ◌+◌, ◌++◌, ◌≤◌, ◌&&◌, ◌||◌, ℕ, true, false, List, [], ◌∷◌}
+use Rattle.std.proofs.Common.{Contains, Option, Some, None, length, map, not, refl, sym, ap}
+use Rattle.std.proofs.Common.{slice_get, subst, inl, inr, le-leb, leb-true, ne_eqb}
+use Rattle.std.proofs.lemmas.Bool.{and_from, and_parts, both_ways, false≢true, not-true, or_parts}
+use Rattle.std.proofs.lemmas.Bool.{or_right}
 use Rattle.std.specs.Bool.{Decides}
-use Rattle.std.proofs.lemmas.Bool.{and_from, and_parts, both_ways, false≢true, le-leb, leb-true}
-use Rattle.std.proofs.lemmas.Bool.{ne_eqb, not-true, or_parts, or_right}
-use Rattle.aeth_base.specs.declared.ids.LinkId.{LinkId}
-use Rattle.aeth_base.specs.declared.ids.NiId.{NiId}
-use Rattle.aeth_base.specs.declared.ids.RouterId.{RouterId}
+use Rattle.aeth_base.specs.declared.ids.{LinkId.LinkId, NiId.NiId, RouterId.RouterId}
 use Rattle.aeth_base.proofs.Members.{Contains-cases, Contains-here, Contains-nil, Contains-there}
-use Rattle.aeth_chip.specs.Joined.{IsJoined, end_of}
-use Rattle.aeth_chip.specs.Nodes.{begins_at, is_router, same_node}
-use Rattle.aeth_chip.specs.PathTests.{link_passes}
-use Rattle.aeth_chip.specs.Paths.{AreDistinct, BeginsAt, ends_of, to_in, to_of}
-use Rattle.aeth_chip.specs.declared.node.Link.{Link}
-use Rattle.aeth_chip.specs.declared.node.Node.{Node}
-use Rattle.aeth_chip.specs.declared.node.Node.TheVariants.{Ni, Router}
-use Rattle.aeth_chip.proofs.NodeLemmas.{same_node-refl, same_node-true}
-use Rattle.aeth_chip.proofs.PathTestLemmas.{passing}
+use Rattle.aeth_chip.{specs.Joined.IsJoined, specs.Joined.end_of, specs.Nodes.begins_at}
+use Rattle.aeth_chip.{specs.Nodes.is_router, specs.Nodes.same_node, specs.PathTests.link_passes}
+use Rattle.aeth_chip.{specs.Paths.AreDistinct, specs.Paths.BeginsAt, specs.Paths.ends_of}
+use Rattle.aeth_chip.{specs.Paths.to_in, specs.Paths.to_of, specs.declared.node.Link.Link}
+use Rattle.aeth_chip.{specs.declared.node.Node.Node, specs.declared.node.Node.TheVariants.Ni}
+use Rattle.aeth_chip.{specs.declared.node.Node.TheVariants.Router, proofs.NodeLemmas.same_node-refl}
+use Rattle.aeth_chip.{proofs.NodeLemmas.same_node-true, proofs.PathTestLemmas.passing}
 use Rattle.aeth_book.specs.Book.{BookData}
-use Rattle.aeth_paths.specs.declared.request.Request.{Request}
-use Rattle.aeth_paths.specs.Open.{is_near}
-use Rattle.aeth_paths.specs.OpenLists.{IsOpenFor, goes_on, is_open_list, leaves_from}
-use Rattle.aeth_paths.specs.Search.{Field, is_new, passes}
-use Rattle.aeth_paths.specs.Task.{field}
+use Rattle.aeth_paths.specs.{declared.request.Request.Request, Open.is_near, OpenLists.IsOpenFor}
+use Rattle.aeth_paths.specs.{OpenLists.goes_on, OpenLists.is_open_list, OpenLists.leaves_from}
+use Rattle.aeth_paths.specs.{Search.Field, Search.is_new, Search.passes, Task.field}
 use Rattle.aeth_paths.proofs.JoinLemmas.{passes-push, router-from}
 
 -- Links behind a list that are joined from a node on and end at distinct routers, at none of which

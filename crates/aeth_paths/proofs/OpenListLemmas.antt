@@ -1,32 +1,21 @@
 -- The bound on steps counts, over all lists of links, the links that leave the ends of the open
 -- ones.
 use Rattle.std.proofs.Common.{◌≡◌, ◌∙◌, ◌+◌, ◌++◌, ◌&&◌, ℕ, zero, suc, Bool, true, false, cond}
-use Rattle.std.proofs.Common.{List}
-use Rattle.std.proofs.Common.{[], ◌∷◌, Option, Some, filter, length, map, slice_get, refl, sym, ap}
-use Rattle.std.proofs.Common.{arith, inl, inr, zero-add}
+use Rattle.std.proofs.Common.{List, [], ◌∷◌, Option, Some, filter, length, map, slice_get, refl}
+use Rattle.std.proofs.Common.{sym, ap, arith, inl, inr, zero-add, sum_by, append-nil, append_assoc}
+use Rattle.std.proofs.lemmas.{Bool.cases_Bool, List.length_push, List.Concat.flat_map-cons}
+use Rattle.std.proofs.lemmas.{List.Sums.sum_by-append, List.Sums.sum_by-cons}
 use Rattle.std.specs.List.{flat_map, range_with_len}
-use Rattle.std.specs.Prelude.{sum_by}
-use Rattle.std.proofs.lemmas.Bool.{cases_Bool}
-use Rattle.std.proofs.lemmas.List.{append-nil, append_assoc, length_push}
-use Rattle.std.proofs.lemmas.List.Concat.{flat_map-cons}
-use Rattle.std.proofs.lemmas.List.Sums.{sum_by-append, sum_by-cons}
-use Rattle.aeth_base.specs.Limits.{max_path_links}
-use Rattle.aeth_base.specs.declared.ids.LinkId.{LinkId}
-use Rattle.aeth_base.specs.declared.ids.NiId.{NiId}
-use Rattle.aeth_base.proofs.Lists.{sum_by-map}
-use Rattle.aeth_chip.specs.Joined.{end_of}
-use Rattle.aeth_chip.specs.LeastDistance.{link_ids}
-use Rattle.aeth_chip.specs.Nodes.{begins_at, numbers_from}
-use Rattle.aeth_chip.specs.PathTests.{link_passes}
-use Rattle.aeth_chip.specs.declared.node.Link.{Link}
-use Rattle.aeth_chip.specs.declared.node.Node.{Node}
-use Rattle.aeth_chip.specs.declared.node.Node.TheVariants.{Ni}
+use Rattle.aeth_base.{specs.Limits.max_path_links, specs.declared.ids.LinkId.LinkId}
+use Rattle.aeth_base.{specs.declared.ids.NiId.NiId, proofs.Lists.sum_by-map}
+use Rattle.aeth_chip.specs.{Joined.end_of, LeastDistance.link_ids, Nodes.begins_at}
+use Rattle.aeth_chip.specs.{Nodes.numbers_from, PathTests.link_passes, declared.node.Link.Link}
+use Rattle.aeth_chip.specs.{declared.node.Node.Node, declared.node.Node.TheVariants.Ni}
 use Rattle.aeth_book.specs.Book.{BookData}
-use Rattle.aeth_paths.specs.declared.request.Request.{Request}
-use Rattle.aeth_paths.specs.Open.{is_open, open_steps}
-use Rattle.aeth_paths.specs.OpenLists.{goes_on, leaves_from, leaving_links, lists_below}
-use Rattle.aeth_paths.specs.Search.{Field, is_new}
-use Rattle.aeth_paths.specs.Task.{field, links_from}
+use Rattle.aeth_paths.specs.{declared.request.Request.Request, Open.is_open, Open.open_steps}
+use Rattle.aeth_paths.specs.{OpenLists.goes_on, OpenLists.leaves_from, OpenLists.leaving_links}
+use Rattle.aeth_paths.specs.{OpenLists.lists_below, Search.Field, Search.is_new, Task.field}
+use Rattle.aeth_paths.specs.{Task.links_from}
 use Rattle.aeth_paths.proofs.StepLemmas.{steps_over}
 
 -- ---- sums

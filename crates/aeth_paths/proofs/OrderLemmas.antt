@@ -1,18 +1,15 @@
 -- The order of paths, key by key and link by link.
 use Rattle.std.proofs.Common.{◌≡◌, ◌≢◌, ◌∙◌, ◌+◌, ◌≤◌, ◌&&◌, ◌||◌, ◌++◌, ℕ, zero, suc, Bool, true}
-use Rattle.std.proofs.Common.{false, cond, eqb, ltb, List, [], ◌∷◌, length, drop, map, Some, slice_get}
-use Rattle.std.proofs.Common.{refl, ap, arith}
+use Rattle.std.proofs.Common.{false, cond, eqb, ltb, List, [], ◌∷◌, length, drop, map, Some}
+use Rattle.std.proofs.Common.{slice_get, refl, ap, arith, sum_by, eq-eqb, le-ltb, ne_eqb}
+use Rattle.std.proofs.lemmas.List.{drop_all, drop_more}
+use Rattle.std.proofs.lemmas.Option.{get_or_from_slice_get, none-some, slice_get_within}
 use Rattle.std.specs.Cmp.Lexicographic.{slice_cmp}
 use Rattle.std.specs.Ordering.{is_lt, nat_cmp, ordering_then}
 use Rattle.std.specs.declared.cmp.Ordering.{Ordering}
 use Rattle.std.specs.declared.cmp.Ordering.TheVariants.{Equal, Greater, Less}
-use Rattle.std.specs.Prelude.{sum_by}
-use Rattle.std.proofs.lemmas.Bool.{eq-eqb, le-ltb, ne_eqb}
-use Rattle.std.proofs.lemmas.List.{drop_all, drop_more}
-use Rattle.std.proofs.lemmas.Option.{get_or_from_slice_get, none-some, slice_get_within}
 use Rattle.aeth_base.specs.declared.ids.LinkId.{LinkId}
-use Rattle.aeth_paths.specs.Search.{Field, is_better}
-use Rattle.aeth_paths.specs.Walk.{is_before}
+use Rattle.aeth_paths.specs.{Search.Field, Search.is_better, Walk.is_before}
 
 -- The numbers of links.
 abbrev pub numbers : List LinkId → List ℕ

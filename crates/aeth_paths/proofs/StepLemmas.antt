@@ -1,38 +1,29 @@
 -- Steps of the search: one more link of those that leave a node, and how many steps it may take.
-use Rattle.std.proofs.Common.{◌≡◌, ◌∙◌, ◌+◌, ◌-◌, ◌<◌, ◌≤◌, ◌++◌, ℕ, zero, suc, true, cond}
-use Rattle.std.proofs.Common.{List, [], ◌∷◌, Contains, length, take, Option, Some, slice_get, sym}
-use Rattle.std.proofs.Common.{refl, ap}
-use Rattle.std.proofs.Common.{subst}
-use Rattle.std.proofs.Common.{arith, None, inl, inr}
-use Rattle.std.specs.List.{flat_map}
-use Rattle.std.specs.Prelude.{sum_by}
+use Rattle.std.proofs.Common.{◌≡◌, ◌∙◌, ◌+◌, ◌-◌, ◌<◌, ◌≤◌, ◌++◌, ℕ, zero, suc, true, cond, List}
+use Rattle.std.proofs.Common.{[], ◌∷◌, Contains, length, take, Option, Some, slice_get, sym, refl}
+use Rattle.std.proofs.Common.{ap, subst, arith, None, inl, inr, sum_by, append-nil, take_all}
 use Rattle.std.proofs.lemmas.Bool.{and_parts, cond-true, false≢true, or_right}
 use Rattle.std.proofs.lemmas.Grind.{flat_map-append}
-use Rattle.std.proofs.lemmas.List.{append-nil, length-map, take_all}
-use Rattle.std.proofs.lemmas.Option.{none-some, slice_get_cases}
-use Rattle.std.proofs.lemmas.Option.{slice_get_within}
-use Rattle.std.proofs.lemmas.List.Concat.{flat_map-cons}
+use Rattle.std.proofs.lemmas.List.{length-map, Concat.flat_map-cons}
+use Rattle.std.proofs.lemmas.Option.{none-some, slice_get_cases, slice_get_within}
+use Rattle.std.specs.List.{flat_map}
 use Rattle.aeth_base.specs.declared.ids.LinkId.{LinkId}
 use Rattle.aeth_chip.specs.declared.node.Link.{Link}
-use Rattle.aeth_chip.specs.declared.node.Node.{Node}
-use Rattle.aeth_chip.specs.declared.node.Node.TheVariants.{Ni, Router}
+use Rattle.aeth_chip.specs.declared.node.Node.{Node, TheVariants.Ni, TheVariants.Router}
 use Rattle.aeth_chip.specs.Chip.{ChipData, IsChip, IsNode}
 use Rattle.aeth_chip.specs.Limits.{max_ports}
 use Rattle.aeth_chip.specs.Nodes.{begins_at, is_router, same_node, sends_on}
 use Rattle.aeth_chip.proofs.NodeLemmas.{length-numbers_from, same_node-refl}
 use Rattle.aeth_chip.proofs.WireLemmas.{sum_by-take_more}
 use Rattle.aeth_group.proofs.ListLemmas.{take-at}
-use Rattle.aeth_paths.specs.declared.priced.Priced.{Priced}
-use Rattle.aeth_paths.specs.declared.search.Turn.TheVariants.{Goes}
-use Rattle.aeth_paths.specs.Open.{is_open, open_steps}
-use Rattle.aeth_paths.specs.Search.{Field, along, by_turn, completions, first_from, is_new}
-use Rattle.aeth_paths.specs.Search.{passes, turn_of}
-use Rattle.aeth_paths.specs.Task.{links_from}
-use Rattle.aeth_paths.specs.declared.prefix.Task.{Task}
-use Rattle.aeth_paths.specs.Walk.{IsTask, Stands, path_in, priced}
-use Rattle.aeth_paths.proofs.JoinLemmas.{leaving-begins, passes-push}
-use Rattle.aeth_paths.proofs.FirstLemmas.{first_from-append}
-use Rattle.aeth_paths.proofs.WalkLemmas.{turn-goes}
+use Rattle.aeth_paths.specs.{declared.priced.Priced.Priced, declared.search.Turn.TheVariants.Goes}
+use Rattle.aeth_paths.specs.{Open.is_open, Open.open_steps, Search.Field, Search.along}
+use Rattle.aeth_paths.specs.{Search.by_turn, Search.completions, Search.first_from, Search.is_new}
+use Rattle.aeth_paths.specs.{Search.passes, Search.turn_of, Task.links_from}
+use Rattle.aeth_paths.specs.{declared.prefix.Task.Task, Walk.IsTask, Walk.Stands, Walk.path_in}
+use Rattle.aeth_paths.specs.{Walk.priced}
+use Rattle.aeth_paths.proofs.{JoinLemmas.leaving-begins, JoinLemmas.passes-push}
+use Rattle.aeth_paths.proofs.{FirstLemmas.first_from-append, WalkLemmas.turn-goes}
 
 -- The path of a priced best is the best.
 pub path_in-priced : (cost : LinkId → ℕ) (best : Option (List LinkId))

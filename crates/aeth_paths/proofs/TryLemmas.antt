@@ -1,29 +1,23 @@
 -- What is best after some paths were tried, and that the search tries all of a pair.
-use Rattle.std.proofs.Common.{◌≡◌, ◌∙◌, ◌⊎◌, ◌+◌, ◌<◌, ◌++◌, ℕ, true, false, List, [], ◌∷◌}
-use Rattle.std.proofs.Common.{length, min, take, get_or, Contains, Option, None, Some, sym, refl}
-use Rattle.std.proofs.Common.{ap, cond, subst}
-use Rattle.std.proofs.Common.{inl, inr, arith}
-use Rattle.std.proofs.lemmas.Bool.{and_from, and_parts, le-leb, leb-true}
-use Rattle.std.proofs.lemmas.List.{take_more}
-use Rattle.std.proofs.lemmas.List.Elements.{Contains-append_cases, Contains-append_left}
-use Rattle.std.proofs.lemmas.List.Elements.{Contains-append_right}
+use Rattle.std.proofs.Common.{◌≡◌, ◌∙◌, ◌⊎◌, ◌+◌, ◌<◌, ◌++◌, ℕ, true, false, List, [], ◌∷◌, length}
+use Rattle.std.proofs.Common.{min, take, get_or, Contains, Option, None, Some, sym, refl, ap, cond}
+use Rattle.std.proofs.Common.{subst, inl, inr, arith, le-leb, leb-true}
+use Rattle.std.proofs.lemmas.Bool.{and_from, and_parts}
+use Rattle.std.proofs.lemmas.List.{take_more, Elements.Contains-append_cases}
+use Rattle.std.proofs.lemmas.List.{Elements.Contains-append_left, Elements.Contains-append_right}
 use Rattle.aeth_base.specs.Limits.{max_path_links}
-use Rattle.aeth_base.specs.declared.ids.LinkId.{LinkId}
-use Rattle.aeth_base.specs.declared.ids.NiId.{NiId}
+use Rattle.aeth_base.specs.declared.ids.{LinkId.LinkId, NiId.NiId}
 use Rattle.aeth_base.proofs.Members.{Contains-cases, Contains-here, Contains-nil}
-use Rattle.aeth_chip.specs.declared.node.Node.TheVariants.{Ni}
-use Rattle.aeth_chip.specs.Paths.{IsDistance, IsLinkFrom, IsPath}
-use Rattle.aeth_chip.specs.Chip.{ChipData, IsChip}
-use Rattle.aeth_chip.specs.LeastDistance.{least_distance}
-use Rattle.aeth_chip.specs.LeastOnward.{least_from}
+use Rattle.aeth_chip.specs.{declared.node.Node.TheVariants.Ni, Paths.IsDistance, Paths.IsLinkFrom}
+use Rattle.aeth_chip.specs.{Paths.IsPath, Chip.ChipData, Chip.IsChip, LeastDistance.least_distance}
+use Rattle.aeth_chip.specs.{LeastOnward.least_from}
 use Rattle.aeth_chip.proofs.LeastDistanceLemmas.{IsLeast-unique, distance_is_least_distance}
 use Rattle.aeth_book.specs.Book.{BookData}
-use Rattle.aeth_paths.specs.declared.request.Request.{Request}
-use Rattle.aeth_paths.specs.Candidates.{is_live, link_cost}
-use Rattle.aeth_paths.specs.Open.{allowed_steps, is_crowded, open_steps, pair_steps}
-use Rattle.aeth_paths.specs.Pairs.{IsOffered, Tries}
-use Rattle.aeth_paths.specs.Search.{Field, completions, first_from, is_candidate}
-use Rattle.aeth_paths.specs.Task.{field}
+use Rattle.aeth_paths.specs.{declared.request.Request.Request, Candidates.is_live}
+use Rattle.aeth_paths.specs.{Candidates.link_cost, Open.allowed_steps, Open.is_crowded}
+use Rattle.aeth_paths.specs.{Open.open_steps, Open.pair_steps, Pairs.IsOffered, Pairs.Tries}
+use Rattle.aeth_paths.specs.{Search.Field, Search.completions, Search.first_from}
+use Rattle.aeth_paths.specs.{Search.is_candidate, Task.field}
 use Rattle.aeth_paths.proofs.FirstLemmas.{first_from-is, first_from-kept, first_from-least}
 use Rattle.aeth_paths.proofs.FirstLemmas.{not_beaten-itself, not_beaten-past}
 use Rattle.aeth_paths.proofs.JoinLemmas.{route-from-walk, walk-from-route}

@@ -1,24 +1,17 @@
 -- There is one first candidate.
-use Rattle.std.proofs.Common.{◌≡◌, ◌≢◌, ◌∙◌, ℕ, List, [], ◌∷◌, map}
-use Rattle.std.proofs.Common.{sym}
-use Rattle.std.proofs.Common.{refl, ap, subst, arith}
+use Rattle.std.proofs.Common.{◌≡◌, ◌≢◌, ◌∙◌, ℕ, List, [], ◌∷◌, map, sym, refl, ap, subst, arith}
+use Rattle.std.proofs.lemmas.{Map.Lookups.exact_bytes, Option.same_Some}
 use Rattle.std.specs.declared.cmp.Ordering.TheVariants.{Less}
-use Rattle.std.proofs.lemmas.Map.Lookups.{exact_bytes}
-use Rattle.std.proofs.lemmas.Option.{same_Some}
-use Rattle.aeth_base.specs.declared.ids.LinkId.{LinkId}
-use Rattle.aeth_base.specs.declared.ids.NiId.{NiId}
+use Rattle.aeth_base.specs.declared.ids.{LinkId.LinkId, NiId.NiId}
 use Rattle.aeth_base.proofs.TestLemmas.{equal_from_turned, then-Equal}
 use Rattle.aeth_chip.specs.declared.node.Link.{Link}
-use Rattle.aeth_chip.specs.declared.node.Node.{Node}
-use Rattle.aeth_chip.specs.declared.node.Node.TheVariants.{Ni, Router}
+use Rattle.aeth_chip.specs.declared.node.Node.{Node, TheVariants.Ni, TheVariants.Router}
 use Rattle.aeth_chip.specs.Paths.{IsPath, to_of}
 use Rattle.aeth_chip.proofs.JoinedLaws.{end_of-ends}
 use Rattle.aeth_book.specs.Book.{BookData}
-use Rattle.aeth_paths.specs.declared.request.Found.{Found}
-use Rattle.aeth_paths.specs.declared.request.Request.{Request}
+use Rattle.aeth_paths.specs.declared.request.{Found.Found, Request.Request}
 use Rattle.aeth_paths.specs.Candidates.{IsFirst, link_cost, path_order, slots_of}
-use Rattle.aeth_paths.proofs.EndLemmas.{path-some}
-use Rattle.aeth_paths.proofs.FirstLemmas.{path_total}
+use Rattle.aeth_paths.proofs.{EndLemmas.path-some, FirstLemmas.path_total}
 
 links-back : (path : List LinkId)
     → map (λ n. record { 0 = n }) (map (λ (link : LinkId). link.0) path) ≡ path

@@ -1,23 +1,17 @@
 -- A list with one more link, which leads to a new router.
-use Rattle.std.proofs.Common.{◌≡◌, ◌∙◌, ◌+◌, ◌++◌, ◌<◌, ◌≤◌, List, [], ◌∷◌, Contains, Some, slice_get}
-use Rattle.std.proofs.Common.{length, refl, sym, ap, subst, arith}
-use Rattle.std.specs.Prelude.{sum_by}
+use Rattle.std.proofs.Common.{◌≡◌, ◌∙◌, ◌+◌, ◌++◌, ◌<◌, ◌≤◌, List, [], ◌∷◌, Contains, Some}
+use Rattle.std.proofs.Common.{slice_get, length, refl, sym, ap, subst, arith, sum_by}
 use Rattle.std.proofs.lemmas.List.Sums.{sum_by-append, sum_by-cons}
 use Rattle.std.proofs.lemmas.Option.{slice_get_within}
 use Rattle.aeth_base.specs.declared.ids.LinkId.{LinkId}
 use Rattle.aeth_chip.specs.Paths.{to_in, to_of}
-use Rattle.aeth_chip.specs.declared.node.Link.{Link}
-use Rattle.aeth_chip.specs.declared.node.Node.{Node}
-use Rattle.aeth_paths.specs.Search.{turn_of}
-use Rattle.aeth_paths.specs.Task.{links_from}
-use Rattle.aeth_paths.specs.Walk.{IsPrefix, IsTask, Stands, costs_of, field_of}
-use Rattle.aeth_paths.specs.declared.search.Goal.{Goal}
-use Rattle.aeth_paths.specs.declared.prefix.Prefix.{Prefix}
-use Rattle.aeth_paths.specs.declared.prefix.Task.{Task}
-use Rattle.aeth_paths.specs.declared.search.Turn.TheVariants.{Goes}
-use Rattle.aeth_paths.proofs.HopelessLemmas.{task-cost}
-use Rattle.aeth_paths.proofs.JoinLemmas.{leaving-begins}
-use Rattle.aeth_paths.proofs.StepLemmas.{stands-goes}
+use Rattle.aeth_chip.specs.declared.node.{Link.Link, Node.Node}
+use Rattle.aeth_paths.specs.{Search.turn_of, Task.links_from, Walk.IsPrefix, Walk.IsTask}
+use Rattle.aeth_paths.specs.{Walk.Stands, Walk.costs_of, Walk.field_of, declared.search.Goal.Goal}
+use Rattle.aeth_paths.specs.{declared.prefix.Prefix.Prefix, declared.prefix.Task.Task}
+use Rattle.aeth_paths.specs.{declared.search.Turn.TheVariants.Goes}
+use Rattle.aeth_paths.proofs.{HopelessLemmas.task-cost, JoinLemmas.leaving-begins}
+use Rattle.aeth_paths.proofs.{StepLemmas.stands-goes}
 
 -- What is known of it: it leads to the end of the link, and costs more than the list.
 pub record IsLonger (task : Task) (prefix : Prefix) (link : LinkId) (node : Node) : Type 0 where

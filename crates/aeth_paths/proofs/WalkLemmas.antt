@@ -1,16 +1,14 @@
 -- The paths that go on from a list are those lists of links that walk on to the goal.
-use Rattle.std.proofs.Common.{◌≡◌, ◌∙◌, ◌≤◌, ◌++◌, ℕ, zero, suc, Bool, true, false}
-use Rattle.std.proofs.Common.{cond, List, [], ◌∷◌, length, Contains, sym, refl, ap, subst, inl, inr}
-use Rattle.std.proofs.Common.{arith}
+use Rattle.std.proofs.Common.{◌≡◌, ◌∙◌, ◌≤◌, ◌++◌, ℕ, zero, suc, Bool, true, false, cond, List, []}
+use Rattle.std.proofs.Common.{◌∷◌, length, Contains, sym, refl, ap, subst, inl, inr, arith}
 use Rattle.std.proofs.Common.{append_assoc}
 use Rattle.std.proofs.lemmas.Bool.{and_parts, cond-true, cond-false, false≢true}
 use Rattle.aeth_base.specs.declared.ids.LinkId.{LinkId}
-use Rattle.aeth_chip.specs.declared.node.Node.{Node}
-use Rattle.aeth_chip.specs.declared.node.Node.TheVariants.{Ni, Router}
-use Rattle.aeth_chip.specs.Nodes.{is_router, same_node}
-use Rattle.aeth_chip.proofs.NodeLemmas.{same_node-refl}
 use Rattle.aeth_base.proofs.Members.{Contains-cases, Contains-flat_map, Contains-here, Contains-nil}
 use Rattle.aeth_base.proofs.Members.{flat_map-Contains}
+use Rattle.aeth_chip.specs.declared.node.Node.{Node, TheVariants.Ni, TheVariants.Router}
+use Rattle.aeth_chip.specs.Nodes.{is_router, same_node}
+use Rattle.aeth_chip.proofs.NodeLemmas.{same_node-refl}
 use Rattle.aeth_paths.specs.declared.search.Turn.{Turn}
 use Rattle.aeth_paths.specs.declared.search.Turn.TheVariants.{Away, Ends, Goes}
 use Rattle.aeth_paths.specs.Search.{Field, Walks, along, by_turn, completions, is_new, turn_of}

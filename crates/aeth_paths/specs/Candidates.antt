@@ -7,24 +7,17 @@
 --   IsAllowed      which pairs of interfaces may be joined
 --   IsCandidate      a path between an allowed pair, and its slots
 --   path_order, IsFirst      the order of candidates, and the first one
-use Rattle.std.specs.Prelude.{ℕ, ◌+◌, ◌-◌, ◌≡◌, ◌≢◌, Bool, List, Option, Some, Contains, length}
-use Rattle.std.specs.Prelude.{map}
-use Rattle.std.specs.Prelude.{sum_by}
+use Rattle.std.proofs.Common.{ℕ, ◌+◌, ◌-◌, ◌≡◌, ◌≢◌, Bool, List, Option, Some, Contains, length}
+use Rattle.std.proofs.Common.{map, sum_by}
 use Rattle.std.specs.Cmp.Lexicographic.{slice_cmp}
-use Rattle.std.specs.declared.cmp.Ordering.{Ordering}
-use Rattle.std.specs.declared.cmp.Ordering.TheVariants.{Less}
+use Rattle.std.specs.declared.cmp.Ordering.{Ordering, TheVariants.Less}
 use Rattle.std.specs.Ordering.{nat_cmp, on, then_cmp}
-use Rattle.aeth_base.specs.declared.ids.LinkId.{LinkId}
-use Rattle.aeth_base.specs.declared.ids.NiId.{NiId}
-use Rattle.aeth_base.specs.declared.ids.Unit.{Unit as GroupUnit}
-use Rattle.aeth_slots.specs.SlotSet.{Slots}
-use Rattle.aeth_slots.specs.Choice.{chosen, is_suitable}
+use Rattle.aeth_base.specs.declared.ids.{LinkId.LinkId, NiId.NiId, Unit.Unit as GroupUnit}
+use Rattle.aeth_slots.specs.{SlotSet.Slots, Choice.chosen, Choice.is_suitable}
 use Rattle.aeth_chip.specs.Paths.{IsAdmissible, delay_of, path_delay}
-use Rattle.aeth_book.specs.Book.{BookData}
-use Rattle.aeth_book.specs.Free.{free_starts, used_slots}
+use Rattle.aeth_book.specs.{Book.BookData, Free.free_starts, Free.used_slots}
 use Rattle.aeth_paths.specs.Costs.{price}
-use Rattle.aeth_paths.specs.declared.request.Request.{Request}
-use Rattle.aeth_paths.specs.declared.request.Found.{Found}
+use Rattle.aeth_paths.specs.declared.request.{Request.Request, Found.Found}
 
 -- The greatest gap of slots on a path: the latency that is asked for and one more, without the
 -- path's delay.

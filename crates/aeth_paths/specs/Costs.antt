@@ -3,7 +3,7 @@
 --   cost_count      how many answers there are
 --   price      the answer for a delay and a number of used slots
 --   HasOneAnswer, AreCosts      what the answers of a function and of a table must be
-use Rattle.std.specs.Prelude.{ℕ, ◌+◌, ◌-◌, ◌*◌, ◌<◌, ◌≤◌, ◌≡◌, List, length, slice_index}
+use Rattle.std.proofs.Common.{ℕ, ◌+◌, ◌-◌, ◌*◌, ◌<◌, ◌≤◌, ◌≡◌, List, length, slice_index}
 use Rattle.aeth_base.specs.Limits.{max_link_delay, max_slots}
 use Rattle.aeth_paths.specs.Limits.{max_cost}
 

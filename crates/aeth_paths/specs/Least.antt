@@ -7,18 +7,13 @@
 --   AreWithin      a table of costs of links, none of which is too high
 --   field_to      what a search to a target reads
 --   IsGoal      what a goal has of these
-use Rattle.std.specs.Prelude.{ℕ, ◌+◌, ◌/◌, ◌%◌, ◌≤◌, List, ◌∷◌, get_or, length, sum_by}
-use Rattle.aeth_base.specs.Limits.{max_path_links}
-use Rattle.aeth_base.specs.declared.ids.LinkId.{LinkId}
+use Rattle.std.proofs.Common.{ℕ, ◌+◌, ◌/◌, ◌%◌, ◌≤◌, List, ◌∷◌, get_or, length, sum_by}
+use Rattle.aeth_base.specs.{Limits.max_path_links, declared.ids.LinkId.LinkId}
 use Rattle.aeth_chip.specs.Limits.{max_routers}
-use Rattle.aeth_chip.specs.declared.node.Node.{Node}
-use Rattle.aeth_chip.specs.declared.node.Node.TheVariants.{Router}
-use Rattle.aeth_paths.specs.Search.{Field, Walks}
-use Rattle.aeth_paths.specs.Task.{field}
-use Rattle.aeth_paths.specs.Walk.{Stands, costs_of, field_of}
-use Rattle.aeth_paths.specs.declared.least.Target.{Target}
-use Rattle.aeth_paths.specs.declared.search.Goal.{Goal}
-use Rattle.aeth_paths.specs.declared.prefix.Task.{Task}
+use Rattle.aeth_chip.specs.declared.node.Node.{Node, TheVariants.Router}
+use Rattle.aeth_paths.specs.{Search.Field, Search.Walks, Task.field, Walk.Stands, Walk.costs_of}
+use Rattle.aeth_paths.specs.{Walk.field_of, declared.least.Target.Target, declared.search.Goal.Goal}
+use Rattle.aeth_paths.specs.{declared.prefix.Task.Task}
 
 -- Links that walk on from a node to the goal, where they're at most so many, cost at least so much.
 abbrev pub CostsAtLeast : Field → Node → List LinkId → ℕ → ℕ → Type 0

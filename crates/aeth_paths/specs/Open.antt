@@ -6,22 +6,17 @@
 --   each_once      a list of interfaces without those that stand in it again
 --   pair_steps, allowed_steps, all_steps      those of a pair of interfaces, if it is allowed, and
 --                                             of all allowed pairs
-use Rattle.std.specs.Prelude.{ℕ, ◌+◌, ◌++◌, ◌&&◌, ◌==◌, nat_le, if◌then◌else◌, zero, suc, Bool}
-use Rattle.std.specs.Prelude.{false, filter, not}
-use Rattle.std.specs.Prelude.{List, [], ◌∷◌, Option, None, Some, length, min, sum_by}
+use Rattle.std.proofs.Common.{ℕ, ◌+◌, ◌++◌, ◌&&◌, ◌==◌, nat_le, if◌then◌else◌, zero, suc, Bool}
+use Rattle.std.proofs.Common.{false, filter, not, List, [], ◌∷◌, Option, None, Some, length, min}
+use Rattle.std.proofs.Common.{sum_by}
 use Rattle.std.specs.List.{list_any}
-use Rattle.aeth_base.specs.declared.ids.LinkId.{LinkId}
-use Rattle.aeth_base.specs.declared.ids.NiId.{NiId}
+use Rattle.aeth_base.specs.declared.ids.{LinkId.LinkId, NiId.NiId}
 use Rattle.aeth_base.specs.Limits.{max_path_links}
-use Rattle.aeth_chip.specs.Chip.{ChipData}
-use Rattle.aeth_chip.specs.LeastDistance.{least_distance}
-use Rattle.aeth_chip.specs.LeastOnward.{least_from}
-use Rattle.aeth_chip.specs.declared.node.Node.{Node}
-use Rattle.aeth_chip.specs.declared.node.Node.TheVariants.{Ni}
+use Rattle.aeth_chip.specs.{Chip.ChipData, LeastDistance.least_distance, LeastOnward.least_from}
+use Rattle.aeth_chip.specs.{declared.node.Node.Node, declared.node.Node.TheVariants.Ni}
 use Rattle.aeth_book.specs.Book.{BookData}
-use Rattle.aeth_paths.specs.declared.request.Request.{Request}
-use Rattle.aeth_paths.specs.Search.{Field, is_new}
-use Rattle.aeth_paths.specs.Task.{field}
+use Rattle.aeth_paths.specs.{declared.request.Request.Request, Search.Field, Search.is_new}
+use Rattle.aeth_paths.specs.{Task.field}
 
 -- Whether a list with so many more links is short enough.
 abbrev pub is_near : ℕ → List LinkId → Option ℕ → Bool

@@ -1,14 +1,12 @@
 -- What a link that leaves a list's end is for a search that has a best path. This project's own.
-use Rattle.std.specs.Prelude.{◌≡◌, ℕ, Option}
+use Rattle.std.proofs.Common.{◌≡◌, ℕ, Option}
 use Rattle.aeth_base.specs.declared.ids.LinkId.{LinkId}
 use Rattle.aeth_paths.specs.Search.{along, completions, first_from, turn_of}
 use Rattle.aeth_paths.specs.Walk.{costs_of, field_of, path_in, priced}
-use Rattle.aeth_paths.specs.declared.search.Goal.{Goal}
-use Rattle.aeth_paths.specs.declared.prefix.Prefix.{Prefix}
+use Rattle.aeth_paths.specs.declared.search.{Goal.Goal, Turn.Turn, Turn.TheVariants.Away}
+use Rattle.aeth_paths.specs.declared.search.{Turn.TheVariants.Ends, Turn.TheVariants.Goes}
+use Rattle.aeth_paths.specs.declared.prefix.{Prefix.Prefix, Task.Task}
 use Rattle.aeth_paths.specs.declared.priced.Priced.{Priced}
-use Rattle.aeth_paths.specs.declared.prefix.Task.{Task}
-use Rattle.aeth_paths.specs.declared.search.Turn.{Turn}
-use Rattle.aeth_paths.specs.declared.search.Turn.TheVariants.{Away, Ends, Goes}
 
 -- No path that goes on over the link changes what is best; or it is the last of a path; or it leads to
 -- a new router.

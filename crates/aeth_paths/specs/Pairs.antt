@@ -3,16 +3,13 @@
 --   IsOffered, OfferedTo, OfferedFrom      a path of a pair, of one sender, and of some senders
 --   NotBeaten, Tries      what is best after some paths were tried
 --   HasEnds      a path leads from an interface to an interface
-use Rattle.std.specs.Prelude.{◌≡◌, ◌⊎◌, ℕ, true, false, List, Option, None, Some, Contains}
+use Rattle.std.proofs.Common.{◌≡◌, ◌⊎◌, ℕ, true, false, List, Option, None, Some, Contains}
 use Rattle.std.specs.Ordering.{is_lt}
-use Rattle.aeth_base.specs.declared.ids.LinkId.{LinkId}
-use Rattle.aeth_base.specs.declared.ids.NiId.{NiId}
-use Rattle.aeth_chip.specs.declared.node.Link.{Link}
-use Rattle.aeth_chip.specs.Paths.{IsAdmissible, IsPath}
+use Rattle.aeth_base.specs.declared.ids.{LinkId.LinkId, NiId.NiId}
+use Rattle.aeth_chip.specs.{declared.node.Link.Link, Paths.IsAdmissible, Paths.IsPath}
 use Rattle.aeth_book.specs.Book.{BookData}
-use Rattle.aeth_paths.specs.declared.request.Request.{Request}
-use Rattle.aeth_paths.specs.Candidates.{is_live, path_order}
-use Rattle.aeth_paths.specs.Open.{is_crowded}
+use Rattle.aeth_paths.specs.{declared.request.Request.Request, Candidates.is_live}
+use Rattle.aeth_paths.specs.{Candidates.path_order, Open.is_crowded}
 
 -- A live admissible path between a pair that isn't one crowded interface.
 pub record IsOffered (book : BookData) (ask : Request) (crowded : List NiId) (a b : NiId)

@@ -4,17 +4,12 @@
 --   is_candidate, keep, first_from      the first of what was best and the candidates of a list
 --   is_new, turn_of      what a link is for a search with the links that led to it
 --   completions, Walks      the paths that go on from a list of links, as lists and as facts
-use Rattle.std.specs.Prelude.{◌≡◌, ◌++◌, ◌&&◌, nat_le, if◌then◌else◌, ℕ, zero, suc, Bool, false}
-use Rattle.std.specs.Prelude.{not, List, [], ◌∷◌, Option, None, Some, length, map, Contains}
-use Rattle.std.specs.List.{flat_map, list_any}
-use Rattle.std.specs.Ordering.{is_lt}
-use Rattle.aeth_base.specs.declared.ids.LinkId.{LinkId}
-use Rattle.aeth_base.specs.declared.ids.RouterId.{RouterId}
-use Rattle.aeth_chip.specs.declared.node.Node.{Node}
-use Rattle.aeth_chip.specs.declared.node.Node.TheVariants.{Router}
-use Rattle.aeth_chip.specs.Joined.{IsJoined}
-use Rattle.aeth_chip.specs.Nodes.{is_router, same_node}
-use Rattle.aeth_chip.specs.Paths.{AreDistinct}
+use Rattle.std.proofs.Common.{◌≡◌, ◌++◌, ◌&&◌, nat_le, if◌then◌else◌, ℕ, zero, suc, Bool, false}
+use Rattle.std.proofs.Common.{not, List, [], ◌∷◌, Option, None, Some, length, map, Contains}
+use Rattle.std.specs.{List.flat_map, List.list_any, Ordering.is_lt}
+use Rattle.aeth_base.specs.declared.ids.{LinkId.LinkId, RouterId.RouterId}
+use Rattle.aeth_chip.specs.{declared.node.Node.Node, declared.node.Node.TheVariants.Router}
+use Rattle.aeth_chip.specs.{Joined.IsJoined, Nodes.is_router, Nodes.same_node, Paths.AreDistinct}
 use Rattle.aeth_paths.specs.declared.search.Turn.{Turn}
 use Rattle.aeth_paths.specs.declared.search.Turn.TheVariants.{Away, Ends, Goes}
 use Rattle.aeth_paths.specs.Candidates.{path_order}

@@ -3,13 +3,11 @@
 --   TrialData, Ascend, IsTrial      a try, and what holds of every one
 --   book_of, IsSized      its grants as the data of a book, of which less is known than of a book
 --   IsTrialOf      a try on a chip
-use Rattle.std.specs.Prelude.{ℕ, ◌<◌, ◌≤◌, List, All, length, map}
+use Rattle.std.proofs.Common.{ℕ, ◌<◌, ◌≤◌, List, All, length, map}
 use Rattle.std.specs.List.Sorted.{IsStrictlyIncreasing}
-use Rattle.aeth_base.specs.Limits.{max_slots}
-use Rattle.aeth_base.specs.declared.ids.NiId.{NiId}
+use Rattle.aeth_base.specs.{Limits.max_slots, declared.ids.NiId.NiId}
 use Rattle.aeth_chip.specs.Chip.{ChipData}
-use Rattle.aeth_group.specs.Members.{GroupsData}
-use Rattle.aeth_group.specs.declared.grant.Grant.{Grant}
+use Rattle.aeth_group.specs.{Members.GroupsData, declared.grant.Grant.Grant}
 use Rattle.aeth_book.specs.Book.{BookData, IsFit}
 use Rattle.aeth_paths.specs.declared.request.Request.{Request}
 

@@ -5,33 +5,21 @@
 --   is_before      the order of paths, by their costs
 --   path_in, priced, costs_of      a path of a best one, a path with its cost, and what links cost
 --   IsLeastFrom, GainsNothing      why a list may be given up
-use Rattle.std.specs.Prelude.{◌≡◌, ◌<◌, ◌≤◌, ◌*◌, ◌↔◌, ◌==◌, ◌&&◌, ◌||◌, nat_lt, ℕ, Bool, true}
-use Rattle.std.specs.Prelude.{List, []}
-use Rattle.std.specs.Prelude.{Option, length, map, option_map, sum_by}
-use Rattle.std.specs.Int.{bit_at}
-use Rattle.std.specs.Cmp.Lexicographic.{slice_cmp}
-use Rattle.std.specs.Ordering.{is_lt, nat_cmp}
-use Rattle.aeth_base.specs.declared.ids.LinkId.{LinkId}
-use Rattle.aeth_base.specs.declared.ids.NiId.{NiId}
-use Rattle.aeth_base.specs.declared.ids.RouterId.{RouterId}
-use Rattle.aeth_chip.specs.Limits.{max_routers}
-use Rattle.aeth_chip.specs.declared.node.Link.{Link}
-use Rattle.aeth_chip.specs.declared.node.Node.{Node}
-use Rattle.aeth_chip.specs.declared.node.Node.TheVariants.{Ni, Router}
+use Rattle.std.proofs.Common.{◌≡◌, ◌<◌, ◌≤◌, ◌*◌, ◌↔◌, ◌==◌, ◌&&◌, ◌||◌, nat_lt, ℕ, Bool, true}
+use Rattle.std.proofs.Common.{List, [], Option, length, map, option_map, sum_by}
+use Rattle.std.specs.{Int.bit_at, Cmp.Lexicographic.slice_cmp, Ordering.is_lt, Ordering.nat_cmp}
+use Rattle.aeth_base.specs.declared.ids.{LinkId.LinkId, NiId.NiId, RouterId.RouterId}
 use Rattle.aeth_base.specs.Limits.{max_link_delay}
-use Rattle.aeth_chip.specs.Chip.{IsChip}
-use Rattle.aeth_chip.specs.Paths.{IsDistance, IsOnwardDistance, path_delay, to_of}
-use Rattle.aeth_book.specs.Book.{IsBook}
-use Rattle.aeth_book.specs.Free.{free_starts}
-use Rattle.aeth_paths.specs.Candidates.{link_cost, path_cost}
-use Rattle.aeth_paths.specs.Costs.{AreCosts}
-use Rattle.aeth_paths.specs.Limits.{max_cost}
-use Rattle.aeth_paths.specs.Search.{Field, completions, first_from, passes}
-use Rattle.aeth_paths.specs.Task.{field}
-use Rattle.aeth_paths.specs.declared.search.Goal.{Goal}
-use Rattle.aeth_paths.specs.declared.prefix.Prefix.{Prefix}
-use Rattle.aeth_paths.specs.declared.priced.Priced.{Priced}
-use Rattle.aeth_paths.specs.declared.prefix.Task.{Task}
+use Rattle.aeth_chip.specs.{Limits.max_routers, declared.node.Link.Link, declared.node.Node.Node}
+use Rattle.aeth_chip.specs.{declared.node.Node.TheVariants.Ni}
+use Rattle.aeth_chip.specs.{declared.node.Node.TheVariants.Router, Chip.IsChip, Paths.IsDistance}
+use Rattle.aeth_chip.specs.{Paths.IsOnwardDistance, Paths.path_delay, Paths.to_of}
+use Rattle.aeth_book.specs.{Book.IsBook, Free.free_starts}
+use Rattle.aeth_paths.specs.{Candidates.link_cost, Candidates.path_cost, Costs.AreCosts}
+use Rattle.aeth_paths.specs.{Limits.max_cost, Search.Field, Search.completions, Search.first_from}
+use Rattle.aeth_paths.specs.{Search.passes, Task.field, declared.search.Goal.Goal}
+use Rattle.aeth_paths.specs.{declared.prefix.Prefix.Prefix, declared.priced.Priced.Priced}
+use Rattle.aeth_paths.specs.{declared.prefix.Task.Task}
 
 -- The book and the least distances are those of the chip's links, and all are what they must be.
 pub record IsTask (task : Task) : Type 0 where

@@ -3,9 +3,7 @@ use Rattle.std.proofs.Common.{◌≡◌, subst}
 use Rattle.aeth_chip.specs.Chip.{ChipData, IsChip}
 use Rattle.aeth_app.specs.App.{AppData, IsApp}
 use Rattle.aeth_group.specs.Members.{GroupsData, groups_of}
-use Rattle.aeth_plan.specs.Accepted.{IsAccepted}
-use Rattle.aeth_plan.specs.Design.{IsDesign}
-use Rattle.aeth_plan.specs.Plan.{IsPlanOf, PlanData}
+use Rattle.aeth_plan.specs.{Accepted.IsAccepted, Design.IsDesign, Plan.IsPlanOf, Plan.PlanData}
 
 -- The plan is accepted for the chip and the application.
 pub design_of : (chip : ChipData) (app : AppData) (groups : GroupsData) (plan : PlanData)

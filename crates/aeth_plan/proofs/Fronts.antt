@@ -1,9 +1,7 @@
 -- The invariants of the loops over lines.
-use Rattle.std.proofs.Common.{◌≡◌, ◌∙◌, ◌++◌, ◌∷◌, [], ℕ, List, Result, Ok}
-use Rattle.std.proofs.Common.{ap, sym}
+use Rattle.std.proofs.Common.{◌≡◌, ◌∙◌, ◌++◌, ◌∷◌, [], ℕ, List, Result, Ok, ap, sym}
 use Rattle.aeth_base.specs.Faults.{BrokenRule}
-use Rattle.aeth_document.specs.Chain.{◌>>=◌}
-use Rattle.aeth_document.proofs.Fronts.{front_later, with_front}
+use Rattle.aeth_document.{specs.Chain.◌>>=◌, proofs.Fronts.front_later, proofs.Fronts.with_front}
 use Rattle.aeth_text.specs.Order.{line_after}
 use Rattle.aeth_plan.specs.Rules.{each}
 

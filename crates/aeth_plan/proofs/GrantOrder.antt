@@ -1,26 +1,23 @@
 -- Grants in a plan's order: what a sort by keys gives.
-use Rattle.std.proofs.Common.{◌≡◌, ◌∙◌, ℕ, suc, ◌+◌, ◌<◌, Bool, true, false, cond, not}
-use Rattle.std.proofs.Common.{◌&&◌, List, [], ◌∷◌, length, get_or, refl, sym, ap, arith}
+use Rattle.std.proofs.Common.{◌≡◌, ◌∙◌, ℕ, suc, ◌+◌, ◌<◌, Bool, true, false, cond, not, ◌&&◌, List}
+use Rattle.std.proofs.Common.{[], ◌∷◌, length, get_or, refl, sym, ap, arith, true≢false, AllPairs}
+use Rattle.std.proofs.Common.{nat_lt, ◌==◌}
 use Rattle.std.proofs.Math.Numerals.{add-one}
-use Rattle.std.proofs.lemmas.Bool.{and_parts, not-true, true≢false}
-use Rattle.std.proofs.lemmas.Bool.Decides.{nat_tests}
+use Rattle.std.proofs.lemmas.Bool.{and_parts, not-true, Decides.nat_tests}
 use Rattle.std.proofs.lemmas.Map.Keys.{IsDistinct-IsPermutation, IsDistinct-from_apart}
 use Rattle.std.proofs.lemmas.Map.Keys.{apart_from_distinct}
-use Rattle.std.specs.Prelude.{AllPairs, nat_lt, ◌==◌}
 use Rattle.std.specs.List.{IsDistinct}
+use Rattle.std.specs.List.Sorted.{IsPermutation, IsSortedBy, IsSortedByKey, ties}
 use Rattle.std.specs.declared.cmp.Ordering.{Ordering}
 use Rattle.std.specs.declared.cmp.Ordering.TheVariants.{Less, Equal, Greater}
-use Rattle.std.specs.List.Sorted.{IsPermutation, IsSortedBy, IsSortedByKey, ties}
 use Rattle.std.specs.Ordering.{is_lt, ordering_then}
-use Rattle.aeth_base.specs.contracts.ids.SideOrd.TheImpl as side_ord
-use Rattle.aeth_base.specs.contracts.ids.UnitOrd.TheImpl as unit_ord
-use Rattle.aeth_base.specs.declared.ids.Side.{Side}
-use Rattle.aeth_base.specs.declared.ids.Side.TheVariants.{Fwd, Back}
+use Rattle.aeth_base.specs.declared.ids.Side.{Side, TheVariants.Fwd, TheVariants.Back}
 use Rattle.aeth_base.specs.declared.ids.Unit.{Unit as GroupUnit}
 use Rattle.aeth_group.specs.declared.grant.Grant.{Grant}
 use Rattle.aeth_text.specs.Order.{Rises, RisesAfter}
-use Rattle.aeth_plan.specs.Making.{AreApart}
-use Rattle.aeth_plan.specs.Plan.{grant_before, side_before}
+use Rattle.aeth_plan.specs.{Making.AreApart, Plan.grant_before, Plan.side_before}
+use Rattle.aeth_base.specs.contracts.ids.SideOrd.TheImpl as side_ord
+use Rattle.aeth_base.specs.contracts.ids.UnitOrd.TheImpl as unit_ord
 
 -- The key of a grant.
 abbrev pub key_of : Grant → GroupUnit × Side

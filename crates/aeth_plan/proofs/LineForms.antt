@@ -1,15 +1,12 @@
 -- The lines of a plan text, each with its reader and its writer.
-use Rattle.std.proofs.Common.{◌≡◌, true, refl}
-use Rattle.std.specs.Prelude.{codes}
+use Rattle.std.proofs.Common.{◌≡◌, true, refl, codes}
 use Rattle.std.specs.List.{AllByRecursion}
 use Rattle.aeth_base.specs.Name.{is_name}
-use Rattle.aeth_text.specs.Fields.{are_ascending, is_path}
-use Rattle.aeth_text.specs.Limits.{line_feed}
+use Rattle.aeth_text.specs.{Fields.are_ascending, Fields.is_path, Limits.line_feed}
 use Rattle.aeth_text.proofs.FieldLaws.{IsNumber, letters, line_of, reads_ascending, reads_links}
 use Rattle.aeth_text.proofs.FieldLaws.{reads_name, reads_number, reads_side, word}
-use Rattle.aeth_text.proofs.Readers.{ReadsBack, reads_as, reads_field, reads_headed}
+use Rattle.aeth_text.proofs.Readers.{ReadsBack, reads_as, reads_field, reads_headed, reads_last}
 use Rattle.aeth_text.proofs.PartLaws.{Above}
-use Rattle.aeth_text.proofs.Readers.{reads_last}
 use Rattle.aeth_plan.specs.Lines.{GrantWords, grant_in, grant_text, head_in, seat_in, seat_text}
 use Rattle.aeth_plan.specs.Spelling.{IsGrantText, IsSeatText, grant_line, head_line, seat_line}
 

@@ -1,23 +1,17 @@
 -- The plan that is made of seats and grants: there is one, and it is one for the chip.
-use Rattle.std.proofs.Common.{◌≡◌, ◌∙◌, ℕ, zero, suc, ◌+◌, ◌<◌, ◌≤◌, Bool, true, false, cond}
-use Rattle.std.proofs.Common.{List, length, get_or, Option, Some, None, refl, sym, subst, arith}
-use Rattle.std.proofs.lemmas.Bool.{true≢false}
+use Rattle.std.proofs.Common.{◌≡◌, ◌∙◌, ℕ, zero, suc, ◌+◌, ◌<◌, ◌≤◌, Bool, true, false, cond, List}
+use Rattle.std.proofs.Common.{length, get_or, Option, Some, None, refl, sym, subst, arith}
+use Rattle.std.proofs.Common.{true≢false, AllPairs, IfSome, nat_lt, ◌==◌}
 use Rattle.std.proofs.lemmas.Bool.Decides.{nat_tests}
 use Rattle.std.proofs.lemmas.List.Elements.{All-from_recursion, recursion_from_All}
 use Rattle.std.proofs.lemmas.List.Sorted.{All-permutation, Contains-permutation, IsPermutation-sym}
-use Rattle.std.specs.Prelude.{AllPairs, IfSome, nat_lt, ◌==◌}
-use Rattle.std.specs.List.{AllByRecursion, cons_option}
-use Rattle.std.specs.List.Sorted.{IsPermutation}
-use Rattle.aeth_base.specs.declared.ids.Side.{Side}
-use Rattle.aeth_base.specs.declared.ids.Side.TheVariants.{Fwd, Back}
+use Rattle.std.specs.List.{AllByRecursion, cons_option, Sorted.IsPermutation}
+use Rattle.aeth_base.specs.declared.ids.Side.{Side, TheVariants.Fwd, TheVariants.Back}
 use Rattle.aeth_chip.specs.Chip.{ChipData}
-use Rattle.aeth_app.specs.App.{AppData}
-use Rattle.aeth_app.specs.Limits.{seats_per_ni}
+use Rattle.aeth_app.specs.{App.AppData, Limits.seats_per_ni}
 use Rattle.aeth_group.specs.Members.{GroupsData}
-use Rattle.aeth_group.specs.declared.grant.Grant.{Grant}
-use Rattle.aeth_group.specs.declared.grant.SeatLine.{SeatLine}
-use Rattle.aeth_seats.specs.Places.{Place, seat_of}
-use Rattle.aeth_seats.specs.Seats.{IsSeats, SeatsData}
+use Rattle.aeth_group.specs.declared.grant.{Grant.Grant, SeatLine.SeatLine}
+use Rattle.aeth_seats.specs.{Places.Place, Places.seat_of, Seats.IsSeats, Seats.SeatsData}
 use Rattle.aeth_text.specs.Order.{Rises}
 use Rattle.aeth_plan.specs.Making.{AreApart, IsPlanWith, line_of_core}
 use Rattle.aeth_plan.specs.Plan.{IsGrantOf, IsPlan, IsPlanOf, IsSeatOf, PlanData, grant_before}

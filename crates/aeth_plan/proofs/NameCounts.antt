@@ -1,10 +1,7 @@
 -- As many names as there are cores and connections.
-use Rattle.std.proofs.Common.{◌≡◌}
-use Rattle.std.proofs.Common.{length}
-use Rattle.std.proofs.lemmas.List.{length-map}
+use Rattle.std.proofs.{Common.◌≡◌, Common.length, lemmas.List.length-map}
 use Rattle.aeth_app.specs.App.{AppData}
-use Rattle.aeth_plan.specs.Plan.{connection_names}
-use Rattle.aeth_plan.specs.Plan.{core_names}
+use Rattle.aeth_plan.specs.Plan.{connection_names, core_names}
 
 -- There are as many names as cores.
 pub length-core_names : (app : AppData) → length (core_names app) ≡ length app.cores

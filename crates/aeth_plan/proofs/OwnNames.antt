@@ -1,11 +1,9 @@
 -- The names of a chip and of an application: they are names, and no two of a kind are one.
 use Rattle.std.proofs.Common.{◌≡◌, ◌++◌, ℕ, true, List, [], ◌∷◌, map}
-use Rattle.std.specs.List.{AllByRecursion, IsDistinct}
-use Rattle.std.specs.Str.{bytes_eq}
 use Rattle.std.proofs.lemmas.List.Elements.{recursion_from_All}
+use Rattle.std.specs.{List.AllByRecursion, List.IsDistinct, Str.bytes_eq}
 use Rattle.aeth_base.specs.Name.{is_name}
-use Rattle.aeth_chip.specs.Chip.{ChipData, IsChip}
-use Rattle.aeth_chip.proofs.NameLemmas.{nis_apart}
+use Rattle.aeth_chip.{specs.Chip.ChipData, specs.Chip.IsChip, proofs.NameLemmas.nis_apart}
 use Rattle.aeth_app.specs.App.{AppData, IsApp}
 use Rattle.aeth_plan.specs.Plan.{connection_names, core_names}
 

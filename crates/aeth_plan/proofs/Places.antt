@@ -1,19 +1,16 @@
 -- The places of names, lines that are judged one by one, and items in order.
-use Rattle.std.proofs.Common.{◌≡◌, ◌+◌, ◌<◌, ◌≤◌, ◌∙◌, ℕ, zero, suc, Bool, true, false}
-use Rattle.std.proofs.Common.{List, [], ◌∷◌, length, map, get_or, Option, Some, None, Result}
-use Rattle.std.proofs.Common.{Ok, refl, sym, ap, subst, arith}
-use Rattle.std.specs.Prelude.{is_none, nat_lt, position, unwrap_or}
+use Rattle.std.proofs.Common.{◌≡◌, ◌+◌, ◌<◌, ◌≤◌, ◌∙◌, ℕ, zero, suc, Bool, true, false, List, []}
+use Rattle.std.proofs.Common.{◌∷◌, length, map, get_or, Option, Some, None, Result, Ok, refl, sym}
+use Rattle.std.proofs.Common.{ap, subst, arith, is_none, nat_lt, position, unwrap_or, lt-ltb}
+use Rattle.std.proofs.Common.{ltb-true}
+use Rattle.std.proofs.lemmas.{Bool.and_parts, Bool.and_from, Bool.cond-true}
+use Rattle.std.proofs.lemmas.{List.Quantifiers.position-Some, List.Sums.position_or_len_is}
+use Rattle.std.proofs.lemmas.{Option.slice_get-get_or, Slice.Eq.bytes_eq-Decides}
 use Rattle.std.specs.List.{AllByRecursion, IsDistinct, list_all, position_or_len}
 use Rattle.std.specs.Str.{bytes_eq}
-use Rattle.std.proofs.lemmas.Bool.{and_parts, and_from, cond-true, lt-ltb, ltb-true}
-use Rattle.std.proofs.lemmas.List.Quantifiers.{position-Some}
-use Rattle.std.proofs.lemmas.List.Sums.{position_or_len_is}
-use Rattle.std.proofs.lemmas.Option.{slice_get-get_or}
-use Rattle.std.proofs.lemmas.Slice.Eq.{bytes_eq-Decides}
 use Rattle.aeth_base.specs.Faults.{BrokenRule}
 use Rattle.aeth_slots.specs.SlotSet.{Ascends}
-use Rattle.aeth_document.specs.Chain.{◌>>=◌}
-use Rattle.aeth_document.proofs.ChainLemmas.{bind_ok}
+use Rattle.aeth_document.{specs.Chain.◌>>=◌, proofs.ChainLemmas.bind_ok}
 use Rattle.aeth_text.specs.Order.{Rises, RisesAfter, line_after}
 use Rattle.aeth_plan.specs.Plan.{name_at}
 use Rattle.aeth_plan.specs.Rules.{each, found, holds, ordered, place_among}

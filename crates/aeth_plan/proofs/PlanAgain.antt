@@ -1,38 +1,27 @@
 -- The plan of a plan's text is the plan.
-use Rattle.std.proofs.Common.{◌≡◌, ◌<◌, ◌≤◌, ℕ, true, List, []}
-use Rattle.std.proofs.Common.{◌∷◌, length, map, Ok, refl}
-use Rattle.std.proofs.Common.{arith, zero, suc}
-use Rattle.std.specs.Prelude.{nat_le}
+use Rattle.std.proofs.Common.{◌≡◌, ◌<◌, ◌≤◌, ℕ, true, List, [], ◌∷◌, length, map, Ok, refl, arith}
+use Rattle.std.proofs.Common.{zero, suc, nat_le, eq-eqb, le-leb, lt-ltb}
+use Rattle.std.proofs.lemmas.Bool.{and_from}
 use Rattle.std.specs.List.{AllByRecursion}
-use Rattle.std.proofs.lemmas.Bool.{and_from, eq-eqb, le-leb, lt-ltb}
-use Rattle.aeth_base.specs.Limits.{max_path_links, min_path_links}
-use Rattle.aeth_base.specs.Name.{is_name}
-use Rattle.aeth_base.specs.declared.ids.LinkId.{LinkId}
+use Rattle.aeth_base.specs.{Limits.max_path_links, Limits.min_path_links, Name.is_name}
+use Rattle.aeth_base.specs.{declared.ids.LinkId.LinkId}
 use Rattle.aeth_chip.specs.Chip.{ChipData, IsChip}
-use Rattle.aeth_app.specs.App.{AppData, IsApp}
+use Rattle.aeth_app.specs.{App.AppData, App.IsApp, Limits.seats_per_ni}
 use Rattle.aeth_group.specs.Members.{GroupsData, IsGroups}
-use Rattle.aeth_group.specs.declared.grant.Grant.{Grant}
-use Rattle.aeth_group.specs.declared.grant.SeatLine.{SeatLine}
+use Rattle.aeth_group.specs.declared.grant.{Grant.Grant, SeatLine.SeatLine}
 use Rattle.aeth_plan.specs.Plan.{IsGrantOf, IsPlanOf, IsSeatOf, PlanData, connection_names}
 use Rattle.aeth_plan.specs.Plan.{core_names, grant_before, name_at, seat_before}
-use Rattle.aeth_plan.specs.PlanText.{grant_words}
-use Rattle.aeth_plan.specs.Rules.{each, known_grant}
-use Rattle.aeth_plan.specs.PlanText.{plan_in, plan_of, plan_text}
-use Rattle.aeth_plan.specs.Rules.{known_seat}
-use Rattle.aeth_plan.specs.PlanText.{plan_words, seat_words}
+use Rattle.aeth_plan.specs.PlanText.{grant_words, plan_in, plan_of, plan_text, plan_words}
+use Rattle.aeth_plan.specs.PlanText.{seat_words}
+use Rattle.aeth_plan.specs.Rules.{each, known_grant, known_seat}
 use Rattle.aeth_plan.specs.Spelling.{IsGrantText, IsSeatText, IsText}
-use Rattle.aeth_plan.proofs.Places.{ascends_below, below_all}
-use Rattle.aeth_plan.proofs.Places.{at_most, each_again}
-use Rattle.aeth_plan.proofs.Places.{place_again}
-use Rattle.aeth_plan.proofs.TextLaws.{text_again}
-use Rattle.aeth_plan.proofs.StartLaws.{are_ascending-of}
-use Rattle.aeth_text.specs.Fields.{is_path}
-use Rattle.aeth_text.specs.Limits.{max_number}
-use Rattle.aeth_app.specs.Limits.{seats_per_ni}
-use Rattle.aeth_text.proofs.OrderLaws.{none_misplaced}
-use Rattle.aeth_plan.proofs.OwnNames.{HasNames, names_hold}
-use Rattle.aeth_plan.proofs.NameCounts.{length-connection_names, length-core_names}
 use Rattle.aeth_plan.specs.Layout.{first_grant_line, first_seat_line}
+use Rattle.aeth_plan.proofs.{Places.ascends_below, Places.below_all, Places.at_most}
+use Rattle.aeth_plan.proofs.{Places.each_again, Places.place_again, TextLaws.text_again}
+use Rattle.aeth_plan.proofs.{StartLaws.are_ascending-of, OwnNames.HasNames, OwnNames.names_hold}
+use Rattle.aeth_plan.proofs.{NameCounts.length-connection_names, NameCounts.length-core_names}
+use Rattle.aeth_text.specs.{Fields.is_path, Limits.max_number}
+use Rattle.aeth_text.proofs.OrderLaws.{none_misplaced}
 
 named_at : (names : List (List ℕ)) (i : ℕ) → AllByRecursion (λ name. is_name name ≡ true) names
     → i < length names → is_name (name_at names i) ≡ true

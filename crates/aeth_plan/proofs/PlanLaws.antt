@@ -1,22 +1,16 @@
 -- What callers of the reader know.
-use Rattle.std.proofs.Common.{◌≡◌, ℕ, List}
-use Rattle.std.proofs.Common.{Result, Ok, Err}
-use Rattle.std.specs.Prelude.{All, IfOk}
-use Rattle.std.specs.List.{AllByRecursion}
+use Rattle.std.proofs.Common.{◌≡◌, ℕ, List, Result, Ok, Err, All, IfOk}
 use Rattle.std.proofs.lemmas.List.Elements.{All-from_recursion}
+use Rattle.std.specs.List.{AllByRecursion}
 use Rattle.aeth_base.specs.Faults.{Reads}
 use Rattle.aeth_chip.specs.Chip.{ChipData}
 use Rattle.aeth_app.specs.App.{AppData}
 use Rattle.aeth_group.specs.Members.{GroupsData}
-use Rattle.aeth_group.specs.declared.grant.Grant.{Grant}
-use Rattle.aeth_group.specs.declared.grant.SeatLine.{SeatLine}
-use Rattle.aeth_plan.specs.declared.fault.PlanFault.{PlanFault}
-use Rattle.aeth_plan.specs.Plan.{IsGrantOf, IsPlanOf, IsSeatOf, PlanData}
-use Rattle.aeth_plan.specs.PlanText.{HasConnection, HasSeat}
-use Rattle.aeth_plan.specs.PlanText.{plan_of, plan_text}
-use Rattle.aeth_plan.specs.Refusals.{rule_of}
-use Rattle.aeth_plan.proofs.PlanReading.{plan_only}
-use Rattle.aeth_plan.proofs.PlanAgain.{all_weaker}
+use Rattle.aeth_group.specs.declared.grant.{Grant.Grant, SeatLine.SeatLine}
+use Rattle.aeth_plan.specs.{declared.fault.PlanFault.PlanFault, Plan.IsGrantOf, Plan.IsPlanOf}
+use Rattle.aeth_plan.specs.{Plan.IsSeatOf, Plan.PlanData, PlanText.HasConnection, PlanText.HasSeat}
+use Rattle.aeth_plan.specs.{PlanText.plan_of, PlanText.plan_text, Refusals.rule_of}
+use Rattle.aeth_plan.proofs.{PlanReading.plan_only, PlanAgain.all_weaker}
 
 -- The plan that was read is one for the chip, the application and its groups.
 pub given_plan : (chip : ChipData) (app : AppData) (groups : GroupsData) (bytes : List ℕ)

@@ -1,40 +1,28 @@
 -- What is read of a plan text is what the text says.
-use Rattle.std.proofs.Common.{◌≡◌, ◌∙◌, ℕ, List}
-use Rattle.std.proofs.Common.{length, Ok, refl, ap}
-use Rattle.std.proofs.Common.{subst, arith, eqb}
-use Rattle.std.specs.Prelude.{nat_le, nat_lt}
+use Rattle.std.proofs.Common.{◌≡◌, ◌∙◌, ℕ, List, length, Ok, refl, ap, subst, arith, eqb, nat_le}
+use Rattle.std.proofs.Common.{nat_lt, eqb-true, leb-true, ltb-true}
+use Rattle.std.proofs.lemmas.Bool.{and_parts, Decides.nat_tests}
 use Rattle.std.specs.List.{list_all}
-use Rattle.std.proofs.lemmas.Bool.{and_parts, eqb-true, leb-true}
-use Rattle.std.proofs.lemmas.Bool.{ltb-true}
-use Rattle.std.proofs.lemmas.Bool.Decides.{nat_tests}
 use Rattle.aeth_base.specs.Limits.{max_path_links, min_path_links}
 use Rattle.aeth_chip.specs.Chip.{ChipData}
-use Rattle.aeth_app.specs.App.{AppData}
+use Rattle.aeth_app.specs.{App.AppData, Limits.seats_per_ni}
 use Rattle.aeth_group.specs.Members.{GroupsData}
-use Rattle.aeth_group.specs.declared.grant.Grant.{Grant}
-use Rattle.aeth_group.specs.declared.grant.SeatLine.{SeatLine}
+use Rattle.aeth_group.specs.declared.grant.{Grant.Grant, SeatLine.SeatLine}
 use Rattle.aeth_plan.specs.declared.text.SeatText.{SeatText}
 use Rattle.aeth_plan.specs.Plan.{IsGrantOf, IsPlanOf, IsSeatOf, PlanData, connection_names}
 use Rattle.aeth_plan.specs.Plan.{core_names, grant_before, seat_before}
-use Rattle.aeth_plan.specs.PlanText.{grant_words}
-use Rattle.aeth_plan.specs.Rules.{each, found, holds, known_grant}
-use Rattle.aeth_plan.specs.PlanText.{plan_in, plan_of, plan_text}
-use Rattle.aeth_plan.specs.Rules.{known_seat, ordered, place_among}
-use Rattle.aeth_plan.specs.PlanText.{plan_words, seat_words}
-use Rattle.aeth_plan.specs.Spelling.{IsGrantText, IsSeatText, IsText}
+use Rattle.aeth_plan.specs.PlanText.{grant_words, plan_in, plan_of, plan_text, plan_words}
+use Rattle.aeth_plan.specs.PlanText.{seat_words}
+use Rattle.aeth_plan.specs.Rules.{each, found, holds, known_grant, known_seat, ordered, place_among}
+use Rattle.aeth_plan.specs.Spelling.{IsGrantText, IsSeatText, IsText, text_from}
 use Rattle.aeth_plan.specs.Lines.{GrantWords, PlanWords, text_of}
-use Rattle.aeth_plan.specs.Spelling.{text_from}
-use Rattle.aeth_plan.proofs.Places.{all_below, ascends}
-use Rattle.aeth_plan.proofs.Places.{each_only, found_ok, holds_ok}
-use Rattle.aeth_plan.proofs.Places.{is_none-None, ordered_ok, place_only}
-use Rattle.aeth_plan.proofs.TextLaws.{text_only}
-use Rattle.aeth_document.proofs.ChainLemmas.{bind_ok}
-use Rattle.aeth_plan.proofs.Chains.{ok_is}
-use Rattle.aeth_app.specs.Limits.{seats_per_ni}
-use Rattle.aeth_text.specs.Order.{misplaced}
-use Rattle.aeth_text.proofs.OrderLaws.{rises}
-use Rattle.aeth_plan.proofs.NameCounts.{length-connection_names, length-core_names}
 use Rattle.aeth_plan.specs.Layout.{first_grant_line, first_seat_line}
+use Rattle.aeth_plan.proofs.{Places.all_below, Places.ascends, Places.each_only, Places.found_ok}
+use Rattle.aeth_plan.proofs.{Places.holds_ok, Places.is_none-None, Places.ordered_ok}
+use Rattle.aeth_plan.proofs.{Places.place_only, TextLaws.text_only, Chains.ok_is}
+use Rattle.aeth_plan.proofs.{NameCounts.length-connection_names, NameCounts.length-core_names}
+use Rattle.aeth_document.proofs.ChainLemmas.{bind_ok}
+use Rattle.aeth_text.{specs.Order.misplaced, proofs.OrderLaws.rises}
 
 seat_only : (chip : ChipData) (app : AppData) (line : ℕ) (text : SeatText) (seat : SeatLine)
     → IsSeatText text → known_seat chip app line text ≡ Ok seat

@@ -1,7 +1,6 @@
 -- Lists that rise by a test that goes on and on along them and holds of no item and itself.
 use Rattle.std.proofs.Common.{◌≡◌, ◌∙◌, ℕ, zero, suc, ◌<◌, Bool, true, List, [], ◌∷◌, length}
-use Rattle.std.proofs.Common.{get_or, inl, inr, refl, sym, ap, arith}
-use Rattle.std.specs.Prelude.{Contains}
+use Rattle.std.proofs.Common.{get_or, inl, inr, refl, sym, ap, arith, Contains}
 use Rattle.aeth_base.proofs.Members.{Contains-cases, Contains-here, Contains-nil, Contains-there}
 use Rattle.aeth_text.specs.Order.{Rises, RisesAfter}
 

@@ -1,16 +1,14 @@
 -- The lines of the cores that have a seat: one core more, and their order.
 use Rattle.std.proofs.Common.{◌≡◌, ◌∙◌, ℕ, zero, suc, ◌+◌, ◌++◌, ◌<◌, List, [], ◌∷◌, Option, Some}
-use Rattle.std.proofs.Common.{None, length, ap, arith}
+use Rattle.std.proofs.Common.{None, length, ap, arith, lt-ltb}
 use Rattle.std.proofs.Math.Numerals.{add-one}
-use Rattle.std.proofs.lemmas.Bool.{lt-ltb}
 use Rattle.std.proofs.lemmas.List.Elements.{filter_map-append}
 use Rattle.std.specs.List.{cons_option, filter_map, range_with_len}
 use Rattle.aeth_base.proofs.Ranges.{range_with_len-more}
 use Rattle.aeth_group.specs.declared.grant.SeatLine.{SeatLine}
 use Rattle.aeth_seats.specs.Places.{Place, seat_of}
 use Rattle.aeth_text.specs.Order.{Rises, RisesAfter}
-use Rattle.aeth_plan.specs.Making.{line_of_core, seated_cores}
-use Rattle.aeth_plan.specs.Plan.{seat_before}
+use Rattle.aeth_plan.specs.{Making.line_of_core, Making.seated_cores, Plan.seat_before}
 
 -- The lines of so many cores, from a core on.
 abbrev pub lines_from : List (Option Place) → ℕ → ℕ → List SeatLine

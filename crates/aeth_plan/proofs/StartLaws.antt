@@ -1,20 +1,16 @@
 -- Lists that are walked by place: starts of a set.
-use Rattle.std.proofs.Common.{◌≡◌, ◌+◌, ◌<◌, ◌≤◌, ◌∙◌, ℕ, zero, suc, true, List}
-use Rattle.std.proofs.Common.{[], ◌∷◌, ◌++◌, length, take, get_or, Option, Some, None}
-use Rattle.std.proofs.Common.{refl, sym, ap, subst, arith}
-use Rattle.std.specs.Prelude.{is_none, nat_le, nat_lt, option_map}
+use Rattle.std.proofs.Common.{◌≡◌, ◌+◌, ◌<◌, ◌≤◌, ◌∙◌, ℕ, zero, suc, true, List, [], ◌∷◌, ◌++◌}
+use Rattle.std.proofs.Common.{length, take, get_or, Option, Some, None, refl, sym, ap, subst, arith}
+use Rattle.std.proofs.Common.{is_none, nat_le, nat_lt, option_map, append-nil, append_assoc}
+use Rattle.std.proofs.lemmas.Bool.{and_from, and_parts, cond-true, Decides.nat_tests}
+use Rattle.std.proofs.lemmas.List.{take_more}
 use Rattle.std.specs.List.{list_all}
-use Rattle.std.proofs.lemmas.Bool.{and_from, and_parts, cond-true}
-use Rattle.std.proofs.lemmas.Bool.Decides.{nat_tests}
-use Rattle.std.proofs.lemmas.List.{append-nil, append_assoc, take_more}
 use Rattle.aeth_slots.specs.SlotSet.{Ascends}
 use Rattle.aeth_slots.proofs.Ascending.{Ascends-push, Ascends-wider}
-use Rattle.aeth_text.specs.Fields.{are_ascending, ascending_in, number_in}
-use Rattle.aeth_text.specs.Grammar.{all_of, both, kept, parts}
-use Rattle.aeth_text.specs.Limits.{comma}
-use Rattle.aeth_text.specs.Order.{misplaced}
-use Rattle.aeth_text.proofs.Fronts.{with_front}
-use Rattle.aeth_text.proofs.OrderLaws.{none_misplaced, rises}
+use Rattle.aeth_text.specs.{Fields.are_ascending, Fields.ascending_in, Fields.number_in}
+use Rattle.aeth_text.specs.{Grammar.all_of, Grammar.both, Grammar.kept, Grammar.parts, Limits.comma}
+use Rattle.aeth_text.specs.{Order.misplaced}
+use Rattle.aeth_text.proofs.{Fronts.with_front, OrderLaws.none_misplaced, OrderLaws.rises}
 use Rattle.aeth_plan.proofs.Places.{all_below, ascends, ascends_rises, is_none-None}
 
 -- Starts that pass the tests of a line ascend below the size of a table.

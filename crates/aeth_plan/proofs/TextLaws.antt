@@ -1,17 +1,14 @@
 -- What a text says and the text of what is said: the one is the other, both ways.
 use Rattle.std.proofs.Common.{◌≡◌, ◌≤◌, ◌∙◌, ℕ, Bool, true, false, cond, List, [], ◌∷◌, ◌++◌}
-use Rattle.std.proofs.Common.{length, map, Option, Some, None, Ok, Err, refl, ap, subst}
-use Rattle.std.proofs.Common.{arith}
-use Rattle.std.specs.Prelude.{codes}
-use Rattle.std.specs.List.{AllByRecursion}
-use Rattle.std.specs.Str.{bytes_eq}
+use Rattle.std.proofs.Common.{length, map, Option, Some, None, Ok, Err, refl, ap, subst, arith}
+use Rattle.std.proofs.Common.{codes}
 use Rattle.std.proofs.lemmas.Slice.Eq.{bytes_eq-Decides}
-use Rattle.aeth_text.specs.Grammar.{behind, leading, lines_of, rest_of}
-use Rattle.aeth_text.specs.Limits.{line_feed, max_number}
-use Rattle.aeth_text.specs.Order.{line_after}
-use Rattle.aeth_text.specs.Spelling.{text_of_lines}
-use Rattle.aeth_text.proofs.LineLaws.{Stops, behind_again, leading_again, leading_only}
-use Rattle.aeth_text.proofs.LineLaws.{lines_again, lines_only, rest_again}
+use Rattle.std.specs.{List.AllByRecursion, Str.bytes_eq}
+use Rattle.aeth_text.specs.{Grammar.behind, Grammar.leading, Grammar.lines_of, Grammar.rest_of}
+use Rattle.aeth_text.specs.{Limits.line_feed, Limits.max_number, Order.line_after}
+use Rattle.aeth_text.specs.{Spelling.text_of_lines}
+use Rattle.aeth_text.proofs.LineLaws.{Stops, behind_again, leading_again, leading_only, lines_again}
+use Rattle.aeth_text.proofs.LineLaws.{lines_only, rest_again}
 use Rattle.aeth_text.proofs.PartLaws.{Above}
 use Rattle.aeth_plan.specs.Layout.{first_grant_line}
 use Rattle.aeth_plan.specs.Lines.{GrantWords, PlanWords, body_in, closed, ended, grant_in, head_in}
@@ -20,9 +17,9 @@ use Rattle.aeth_plan.specs.Refusals.{bad_line}
 use Rattle.aeth_plan.specs.Spelling.{IsGrantText, IsSeatText, IsText, grant_line, lines_from}
 use Rattle.aeth_plan.specs.Spelling.{seat_line, text_from}
 use Rattle.aeth_plan.specs.declared.text.SeatText.{SeatText}
-use Rattle.aeth_document.proofs.ChainLemmas.{bind_ok}
 use Rattle.aeth_plan.proofs.Chains.{err_ok, ok_is}
 use Rattle.aeth_plan.proofs.LineForms.{reads_grant, reads_head, reads_seat}
+use Rattle.aeth_document.proofs.ChainLemmas.{bind_ok}
 
 -- ---- No line has two forms
 

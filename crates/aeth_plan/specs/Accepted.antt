@@ -7,25 +7,18 @@
 --   gap_for, HasSlots      a grant's slots suffice for what the channel needs and wishes
 --   IsAccepted      the plan is accepted
 -- Connections: after Æthereal (2005). The rest: this project's own.
-use Rattle.std.specs.Prelude.{◌≡◌, ◌<◌, ◌+◌, ◌-◌, ℕ, List, Some, slice_get, Contains, IsTrue}
-use Rattle.aeth_base.specs.declared.ids.CoreId.{CoreId}
-use Rattle.aeth_base.specs.declared.ids.NiId.{NiId}
-use Rattle.aeth_base.specs.declared.ids.Side.{Side}
-use Rattle.aeth_base.specs.declared.ids.Unit.{Unit as GroupUnit}
+use Rattle.std.proofs.Common.{◌≡◌, ◌<◌, ◌+◌, ◌-◌, ℕ, List, Some, slice_get, Contains, IsTrue}
+use Rattle.aeth_base.specs.declared.ids.{CoreId.CoreId, NiId.NiId, Side.Side}
+use Rattle.aeth_base.specs.declared.ids.{Unit.Unit as GroupUnit}
 use Rattle.aeth_slots.specs.Choice.{IsSuitable}
-use Rattle.aeth_chip.specs.Chip.{ChipData}
-use Rattle.aeth_chip.specs.Paths.{IsAdmissible, path_delay}
-use Rattle.aeth_app.specs.App.{AppData, wish_of}
-use Rattle.aeth_app.specs.Connections.{receiver, sender}
-use Rattle.aeth_app.specs.Rates.{need_of}
-use Rattle.aeth_app.specs.declared.connection.Connection.{Connection}
-use Rattle.aeth_app.specs.declared.connection.Core.{Core}
+use Rattle.aeth_chip.specs.{Chip.ChipData, Paths.IsAdmissible, Paths.path_delay}
+use Rattle.aeth_app.specs.{App.AppData, App.wish_of, Connections.receiver, Connections.sender}
+use Rattle.aeth_app.specs.{Rates.need_of, declared.connection.Connection.Connection}
+use Rattle.aeth_app.specs.{declared.connection.Core.Core}
 use Rattle.aeth_group.specs.Conflict.{Conflict}
 use Rattle.aeth_group.specs.Members.{GroupsData, is_member, units_of}
-use Rattle.aeth_group.specs.declared.grant.Grant.{Grant}
-use Rattle.aeth_group.specs.declared.grant.SeatLine.{SeatLine}
-use Rattle.aeth_plan.specs.Plan.{PlanData}
-use Rattle.aeth_plan.specs.Seated.{IsOneSeat, ni_of}
+use Rattle.aeth_group.specs.declared.grant.{Grant.Grant, SeatLine.SeatLine}
+use Rattle.aeth_plan.specs.{Plan.PlanData, Seated.IsOneSeat, Seated.ni_of}
 
 -- No two items of a list, one behind the other, are so related.
 abbrev pub NoTwo : {X : Type 0} → (X → X → Type 0) → List X → Type 0

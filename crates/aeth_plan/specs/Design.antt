@@ -3,8 +3,7 @@
 use Rattle.aeth_chip.specs.Chip.{ChipData, IsChip}
 use Rattle.aeth_app.specs.App.{AppData, IsApp}
 use Rattle.aeth_group.specs.Members.{groups_of}
-use Rattle.aeth_plan.specs.Accepted.{IsAccepted}
-use Rattle.aeth_plan.specs.Plan.{IsPlanOf, PlanData}
+use Rattle.aeth_plan.specs.{Accepted.IsAccepted, Plan.IsPlanOf, Plan.PlanData}
 
 -- A chip, an application, and a plan for them that is accepted.
 pub record IsDesign (chip : ChipData) (app : AppData) (plan : PlanData) : Type 0 where

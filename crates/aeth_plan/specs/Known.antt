@@ -1,11 +1,9 @@
 -- Names that were looked up. This project's own.
 --
 --   IsNamed      a connection of an application, and its name
-use Rattle.std.specs.Prelude.{◌≡◌, Some}
+use Rattle.std.proofs.Common.{◌≡◌, Some}
 use Rattle.aeth_app.specs.App.{AppData}
-use Rattle.aeth_plan.specs.declared.known.Named.{Named}
-use Rattle.aeth_plan.specs.Plan.{connection_names}
-use Rattle.aeth_plan.specs.Rules.{place_among}
+use Rattle.aeth_plan.specs.{declared.known.Named.Named, Plan.connection_names, Rules.place_among}
 
 -- The connection is the application's of this name.
 abbrev pub IsNamed : AppData → Named → Type 0

@@ -1,6 +1,6 @@
 -- Where the lines of a plan text stand. Lines count from 1.
 -- This project's own.
-use Rattle.std.specs.Prelude.{ℕ, List, length}
+use Rattle.std.proofs.Common.{ℕ, List, length}
 use Rattle.aeth_text.specs.Order.{line_after}
 
 -- The line of the first seat, behind the line of the plan.

@@ -4,14 +4,11 @@
 --   AreApart      two grants aren't for one side of one unit
 --   IsPlanWith      what the plan is that is made
 -- This project's own.
-use Rattle.std.specs.Prelude.{◌≡◌, ◌≢◌, ℕ, List, length, Option, Some, None}
-use Rattle.std.specs.List.{filter_map, range_with_len}
-use Rattle.std.specs.List.Sorted.{IsPermutation}
+use Rattle.std.proofs.Common.{◌≡◌, ◌≢◌, ℕ, List, length, Option, Some, None}
+use Rattle.std.specs.List.{filter_map, range_with_len, Sorted.IsPermutation}
 use Rattle.aeth_chip.specs.Chip.{ChipData}
-use Rattle.aeth_seats.specs.Places.{Place, seat_of}
-use Rattle.aeth_seats.specs.Seats.{SeatsData}
-use Rattle.aeth_group.specs.declared.grant.Grant.{Grant}
-use Rattle.aeth_group.specs.declared.grant.SeatLine.{SeatLine}
+use Rattle.aeth_seats.specs.{Places.Place, Places.seat_of, Seats.SeatsData}
+use Rattle.aeth_group.specs.declared.grant.{Grant.Grant, SeatLine.SeatLine}
 use Rattle.aeth_plan.specs.Plan.{IsPlan, PlanData}
 
 -- The line of a core with this seat, if it has one.

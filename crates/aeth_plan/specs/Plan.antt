@@ -6,21 +6,18 @@
 --   IsSeatOf, IsGrantOf, IsPlanOf      what holds of a plan for a chip, an application and groups
 --   core_names, name_at      the names in a plan's text
 -- This project's own.
-use Rattle.std.specs.Prelude.{◌≡◌, ◌≤◌, ◌<◌, ◌==◌, ℕ, Bool, true, false, nat_lt, List, []}
-use Rattle.std.specs.Prelude.{length, map, slice_get, unwrap_or, if◌then◌else◌}
+use Rattle.std.proofs.Common.{◌≡◌, ◌≤◌, ◌<◌, ◌==◌, ℕ, Bool, true, false, nat_lt, List, [], length}
+use Rattle.std.proofs.Common.{map, slice_get, unwrap_or, if◌then◌else◌}
 use Rattle.std.specs.List.{AllByRecursion}
-use Rattle.aeth_base.specs.declared.ids.Side.{Side}
-use Rattle.aeth_base.specs.declared.ids.Side.TheVariants.{Fwd, Back}
+use Rattle.aeth_base.specs.declared.ids.Side.{Side, TheVariants.Fwd, TheVariants.Back}
 use Rattle.aeth_base.specs.Limits.{max_path_links, min_path_links}
 use Rattle.aeth_slots.specs.SlotSet.{Ascends}
 use Rattle.aeth_text.specs.Order.{Rises}
 use Rattle.aeth_chip.specs.Chip.{ChipData}
-use Rattle.aeth_app.specs.App.{AppData}
-pub use Rattle.aeth_app.specs.Connections.{connection_names}
-use Rattle.aeth_app.specs.Limits.{seats_per_ni}
+use Rattle.aeth_app.specs.{App.AppData, Limits.seats_per_ni}
 use Rattle.aeth_group.specs.Members.{GroupsData}
-use Rattle.aeth_group.specs.declared.grant.Grant.{Grant}
-use Rattle.aeth_group.specs.declared.grant.SeatLine.{SeatLine}
+use Rattle.aeth_group.specs.declared.grant.{Grant.Grant, SeatLine.SeatLine}
+pub use Rattle.aeth_app.specs.Connections.{connection_names}
 
 -- A plan: the size of the slot tables, where cores are seated, and what is granted.
 pub record PlanData : Type 0 where

@@ -4,22 +4,20 @@
 --   seat_words, grant_words, plan_words, plan_text      the text of a plan
 --   HasSeat, HasConnection      what a line has to name to be printed
 -- This project's own.
-use Rattle.std.specs.Prelude.{ℕ, ◌<◌, ◌==◌, List, length, map, Result, Ok}
+use Rattle.std.proofs.Common.{ℕ, ◌<◌, ◌==◌, List, length, map, Result, Ok}
 use Rattle.aeth_base.specs.Faults.{BrokenRule}
 use Rattle.aeth_document.specs.Chain.{◌>>=◌}
 use Rattle.aeth_text.specs.Order.{misplaced}
 use Rattle.aeth_chip.specs.Chip.{ChipData}
 use Rattle.aeth_app.specs.App.{AppData}
 use Rattle.aeth_group.specs.Members.{GroupsData}
-use Rattle.aeth_group.specs.declared.grant.Grant.{Grant}
-use Rattle.aeth_group.specs.declared.grant.SeatLine.{SeatLine}
-use Rattle.aeth_plan.specs.declared.text.SeatText.{SeatText}
-use Rattle.aeth_plan.specs.Layout.{first_grant_line, first_seat_line}
-use Rattle.aeth_plan.specs.Lines.{GrantWords, PlanWords, text_of}
-use Rattle.aeth_plan.specs.Plan.{PlanData, connection_names, core_names, grant_before, name_at}
-use Rattle.aeth_plan.specs.Plan.{seat_before}
-use Rattle.aeth_plan.specs.Rules.{each, holds, known_grant, known_seat, ordered}
-use Rattle.aeth_plan.specs.Spelling.{text_from}
+use Rattle.aeth_group.specs.declared.grant.{Grant.Grant, SeatLine.SeatLine}
+use Rattle.aeth_plan.specs.{declared.text.SeatText.SeatText, Layout.first_grant_line}
+use Rattle.aeth_plan.specs.{Layout.first_seat_line, Lines.GrantWords, Lines.PlanWords}
+use Rattle.aeth_plan.specs.{Lines.text_of, Plan.PlanData, Plan.connection_names, Plan.core_names}
+use Rattle.aeth_plan.specs.{Plan.grant_before, Plan.name_at, Plan.seat_before, Rules.each}
+use Rattle.aeth_plan.specs.{Rules.holds, Rules.known_grant, Rules.known_seat, Rules.ordered}
+use Rattle.aeth_plan.specs.{Spelling.text_from}
 
 -- The plan of what the lines say: unknown fields line by line, then lines that are out of order.
 unfoldable pub plan_in : ChipData → AppData → GroupsData → PlanWords → Result PlanData BrokenRule

@@ -1,6 +1,6 @@
 -- The rules that plan texts break. Places are lines, which count from 1.
 -- This project's own.
-use Rattle.std.specs.Prelude.{ℕ, codes, Option, Some, None}
+use Rattle.std.proofs.Common.{ℕ, codes, Option, Some, None}
 use Rattle.aeth_base.specs.Faults.{BrokenRule}
 use Rattle.aeth_base.specs.declared.shown.Shown.TheVariants.{Nothing, Number}
 use Rattle.aeth_plan.specs.declared.fault.PlanFault.{PlanFault}

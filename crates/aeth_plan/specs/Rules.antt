@@ -4,23 +4,19 @@
 --   each, ordered      each line, and the order of lines
 --   known_seat, known_grant      the rule of unknown fields, line by line
 -- This project's own.
-use Rattle.std.specs.Prelude.{ℕ, Bool, true, false, List, [], ◌∷◌, length, position, nat_lt}
-use Rattle.std.specs.Prelude.{Option, Some, None, Result, Ok, Err}
-use Rattle.std.specs.List.{list_all}
-use Rattle.std.specs.Str.{bytes_eq}
+use Rattle.std.proofs.Common.{ℕ, Bool, true, false, List, [], ◌∷◌, length, position, nat_lt, Option}
+use Rattle.std.proofs.Common.{Some, None, Result, Ok, Err}
+use Rattle.std.specs.{List.list_all, Str.bytes_eq}
 use Rattle.aeth_base.specs.Faults.{BrokenRule}
 use Rattle.aeth_document.specs.Chain.{◌>>=◌}
 use Rattle.aeth_text.specs.Order.{line_after}
 use Rattle.aeth_chip.specs.Chip.{ChipData}
-use Rattle.aeth_app.specs.App.{AppData}
-use Rattle.aeth_app.specs.Limits.{seats_per_ni}
+use Rattle.aeth_app.specs.{App.AppData, Limits.seats_per_ni}
 use Rattle.aeth_group.specs.Members.{GroupsData}
-use Rattle.aeth_group.specs.declared.grant.Grant.{Grant}
-use Rattle.aeth_group.specs.declared.grant.SeatLine.{SeatLine}
-use Rattle.aeth_plan.specs.declared.text.SeatText.{SeatText}
-use Rattle.aeth_plan.specs.Lines.{GrantWords}
-use Rattle.aeth_plan.specs.Plan.{connection_names, core_names}
-use Rattle.aeth_plan.specs.Refusals.{unknown, wrong_order}
+use Rattle.aeth_group.specs.declared.grant.{Grant.Grant, SeatLine.SeatLine}
+use Rattle.aeth_plan.specs.{declared.text.SeatText.SeatText, Lines.GrantWords}
+use Rattle.aeth_plan.specs.{Plan.connection_names, Plan.core_names, Refusals.unknown}
+use Rattle.aeth_plan.specs.{Refusals.wrong_order}
 
 -- What a field of a line names.
 abbrev pub found : ℕ → ℕ → Option ℕ → Result ℕ BrokenRule

@@ -1,7 +1,6 @@
 -- Where a plan seats cores. Seats: after UMARS (2005), which places cores on network interfaces.
-use Rattle.std.specs.Prelude.{◌≡◌, ◌==◌, List, [], ◌∷◌, Option, Some, None, if◌then◌else◌}
-use Rattle.aeth_base.specs.declared.ids.CoreId.{CoreId}
-use Rattle.aeth_base.specs.declared.ids.NiId.{NiId}
+use Rattle.std.proofs.Common.{◌≡◌, ◌==◌, List, [], ◌∷◌, Option, Some, None, if◌then◌else◌}
+use Rattle.aeth_base.specs.declared.ids.{CoreId.CoreId, NiId.NiId}
 use Rattle.aeth_group.specs.declared.grant.SeatLine.{SeatLine}
 
 -- Two lines seat cores on one seat: the interface is one, and the seat there.

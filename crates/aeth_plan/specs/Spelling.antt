@@ -4,14 +4,13 @@
 --   lines_from, text_from      the lines of a text, and the text
 --   IsSeatText, IsGrantText, IsText      what has a text
 -- This project's own.
-use Rattle.std.specs.Prelude.{ℕ, ◌≤◌, List, [], ◌∷◌, ◌++◌, codes, decimal, map, IsTrue}
+use Rattle.std.proofs.Common.{ℕ, ◌≤◌, List, [], ◌∷◌, ◌++◌, codes, decimal, map, IsTrue}
 use Rattle.std.specs.List.{AllByRecursion, join_with_byte}
 use Rattle.aeth_base.specs.Name.{is_name}
 use Rattle.aeth_text.specs.Fields.{are_ascending, is_path}
 use Rattle.aeth_text.specs.Limits.{max_number, space}
 use Rattle.aeth_text.specs.Spelling.{links_word, numbers_word, side_word, text_of_lines}
-use Rattle.aeth_plan.specs.declared.text.SeatText.{SeatText}
-use Rattle.aeth_plan.specs.Lines.{GrantWords, PlanWords}
+use Rattle.aeth_plan.specs.{declared.text.SeatText.SeatText, Lines.GrantWords, Lines.PlanWords}
 
 -- `plan 1 SLOTS`.
 unfoldable pub head_line : ℕ → List ℕ

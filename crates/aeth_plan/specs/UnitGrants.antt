@@ -1,8 +1,7 @@
 -- The grants for a side of a unit, in a plan's order. This project's own.
-use Rattle.std.specs.Prelude.{◌==◌, ◌&&◌, Bool}
+use Rattle.std.proofs.Common.{◌==◌, ◌&&◌, Bool}
 use Rattle.aeth_base.specs.Sides.{same_side}
-use Rattle.aeth_base.specs.declared.ids.Side.{Side}
-use Rattle.aeth_base.specs.declared.ids.Unit.{Unit as GroupUnit}
+use Rattle.aeth_base.specs.declared.ids.{Side.Side, Unit.Unit as GroupUnit}
 use Rattle.aeth_group.specs.declared.grant.Grant.{Grant}
 use Rattle.aeth_plan.specs.Plan.{grant_before}
 

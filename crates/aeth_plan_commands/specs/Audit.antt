@@ -1,30 +1,25 @@
 -- `audit CHIP APP PLAN SWITCHES LOG CYCLES`: whether each flit of a log of links is one that the
 -- network of an accepted plan may carry there, or the first row that breaks a rule.
 -- This project's own.
-use Rattle.std.specs.Prelude.{ℕ, ◌++◌, List, [], ◌∷◌, Option, Some, None, codes, decimal, length}
+use Rattle.std.proofs.Common.{ℕ, ◌++◌, List, [], ◌∷◌, Option, Some, None, codes, decimal, length}
 use Rattle.aeth_accepted.specs.Inputs.{design_on}
-use Rattle.aeth_audit.specs.Audit.{audit_of}
-use Rattle.aeth_audit.specs.LinkLog.{link_log_of}
-use Rattle.aeth_audit.specs.declared.verdict.Audit.{Audit}
-use Rattle.aeth_audit.specs.declared.verdict.Audit.TheVariants.{Clean, Fault}
-use Rattle.aeth_audit.specs.declared.row.LinkRow.{LinkRow}
+use Rattle.aeth_audit.specs.{Audit.audit_of, LinkLog.link_log_of, declared.verdict.Audit.Audit}
+use Rattle.aeth_audit.specs.{declared.verdict.Audit.TheVariants.Clean}
+use Rattle.aeth_audit.specs.{declared.verdict.Audit.TheVariants.Fault, declared.row.LinkRow.LinkRow}
 use Rattle.aeth_base.specs.Limits.{max_cycles}
-use Rattle.aeth_files.specs.Files.{design_file}
+use Rattle.aeth_files.specs.{Files.design_file, Plans.accepted_file}
 use Rattle.aeth_run_files.specs.TraceFiles.{switches_file}
-use Rattle.aeth_files.specs.Plans.{accepted_file}
 use Rattle.aeth_group.specs.Members.{groups_of}
-use Rattle.aeth_plan.specs.Plan.{PlanData}
-use Rattle.aeth_plan.specs.declared.design.Design.{Design}
+use Rattle.aeth_plan.specs.{Plan.PlanData, declared.design.Design.Design}
 use Rattle.aeth_reconf.specs.Timeline.{timeline_of}
 use Rattle.aeth_tables.specs.Switching.{spans_of}
 use Rattle.aeth_trace.specs.declared.switches.SwitchRow.{SwitchRow}
 use Rattle.aeth_plan_commands.specs.declared.command.PlanCommand.{PlanCommand}
-use Rattle.aeth_plan_commands.specs.declared.command.PlanCommand.TheVariants as command
 use Rattle.aeth_plan_commands.specs.declared.audit.AuditFiles.{AuditFiles}
-use Rattle.aeth_answers.specs.Files.{judged_file}
-use Rattle.aeth_answers.specs.Job.{Job, done, not_granted}
-use Rattle.aeth_answers.specs.Task.{Judging, Task, ends}
-use Rattle.aeth_answers.specs.Words.{◌>>=◌, file_name_of, number_within}
+use Rattle.aeth_answers.specs.{Files.judged_file, Job.Job, Job.done, Job.not_granted, Task.Judging}
+use Rattle.aeth_answers.specs.{Task.Task, Task.ends, Words.◌>>=◌, Words.file_name_of}
+use Rattle.aeth_answers.specs.{Words.number_within}
+use Rattle.aeth_plan_commands.specs.declared.command.PlanCommand.TheVariants as command
 
 -- CHIP a chip file, APP an application file, PLAN a plan text, SWITCHES a file of switches, LOG a
 -- log of links; CYCLES the number of cycles that are judged.

@@ -1,36 +1,24 @@
 -- `chain CHIP APP PLAN USE CHAIN WORDS RECEIVERS CYCLES`: what a run of a chain of forwarding cores shows.
 -- This project's own.
-use Rattle.std.specs.Prelude.{ℕ, List, [], ◌∷◌, Option, Some, None, codes}
+use Rattle.std.proofs.Common.{ℕ, List, [], ◌∷◌, Option, Some, None, codes}
 use Rattle.aeth_app.specs.App.{AppData}
-use Rattle.aeth_base.specs.Limits.{max_cycles}
-use Rattle.aeth_base.specs.Name.{name_of}
-use Rattle.aeth_base.specs.declared.ids.UseId.{UseId}
+use Rattle.aeth_base.specs.{Limits.max_cycles, Name.name_of, declared.ids.UseId.UseId}
 use Rattle.aeth_server.specs.declared.shape.ChannelShape.{ChannelShape}
 use Rattle.aeth_group.specs.Members.{groups_of}
-use Rattle.aeth_plan.specs.Plan.{PlanData}
-use Rattle.aeth_plan.specs.declared.design.Design.{Design}
+use Rattle.aeth_plan.specs.{Plan.PlanData, declared.design.Design.Design}
 use Rattle.aeth_tables.specs.Tables.{tables_of}
-use Rattle.aeth_trace.specs.declared.receivers.PullRow.{PullRow}
-use Rattle.aeth_trace.specs.declared.words.WordRow.{WordRow}
-use Rattle.aeth_chain.specs.Chain.{bound_of, legs_of}
-use Rattle.aeth_chain.specs.ChainRun.{chain_log}
-use Rattle.aeth_chain.specs.ChainText.{chain_text}
-use Rattle.aeth_chain.specs.declared.item.ChainItem.{ChainItem}
-use Rattle.aeth_chain.specs.ChainItems.{items_of}
-use Rattle.aeth_chain.specs.ItemNames.{item_names_of}
-use Rattle.aeth_chain.specs.Shapes.{shapes_in}
-use Rattle.aeth_chain.specs.declared.names.ItemName.{ItemName}
-use Rattle.aeth_files.specs.Files.{design_file}
+use Rattle.aeth_trace.specs.declared.{receivers.PullRow.PullRow, words.WordRow.WordRow}
+use Rattle.aeth_chain.specs.{Chain.bound_of, Chain.legs_of, ChainRun.chain_log}
+use Rattle.aeth_chain.specs.{ChainText.chain_text, declared.item.ChainItem.ChainItem}
+use Rattle.aeth_chain.specs.{ChainItems.items_of, ItemNames.item_names_of, Shapes.shapes_in}
+use Rattle.aeth_chain.specs.{declared.names.ItemName.ItemName}
+use Rattle.aeth_files.specs.{Files.design_file, Plans.accepted_file, Uses.named_use}
 use Rattle.aeth_run_files.specs.TraceFiles.{receivers_file, words_file}
-use Rattle.aeth_files.specs.Plans.{accepted_file}
-use Rattle.aeth_files.specs.Uses.{named_use}
-use Rattle.aeth_answers.specs.Files.{judgement}
-use Rattle.aeth_answers.specs.Job.{Job, done}
-use Rattle.aeth_answers.specs.Task.{Judging, Task, ends}
-use Rattle.aeth_answers.specs.Words.{◌>>=◌, file_name_of, number_within}
+use Rattle.aeth_answers.specs.{Files.judgement, Job.Job, Job.done, Task.Judging, Task.Task}
+use Rattle.aeth_answers.specs.{Task.ends, Words.◌>>=◌, Words.file_name_of, Words.number_within}
 use Rattle.aeth_plan_commands.specs.declared.command.PlanCommand.{PlanCommand}
-use Rattle.aeth_plan_commands.specs.declared.command.PlanCommand.TheVariants as command
 use Rattle.aeth_plan_commands.specs.declared.chain.ChainFiles.{ChainFiles}
+use Rattle.aeth_plan_commands.specs.declared.command.PlanCommand.TheVariants as command
 
 -- CHIP a chip file, APP an application file, PLAN a plan text, USE the name of a use case, CHAIN the items of
 -- a chain, WORDS and RECEIVERS traces, CYCLES a number of cycles.

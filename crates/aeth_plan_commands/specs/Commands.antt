@@ -1,15 +1,14 @@
 -- The commands on accepted plans, and what each asks for.
 -- This project's own.
-use Rattle.std.specs.Prelude.{ℕ, ◌≤◌, ⊤, List, Option, None, codes, if◌then◌else◌}
-use Rattle.std.specs.Str.{bytes_eq}
+use Rattle.std.proofs.Common.{ℕ, ◌≤◌, List, Option, None, codes, if◌then◌else◌}
+use Rattle.std.specs.{Prelude.⊤, Str.bytes_eq}
 use Rattle.aeth_answers.specs.Task.{Task}
 use Rattle.aeth_base.specs.Limits.{max_cycles}
 use Rattle.aeth_chain.specs.ItemNames.{AreItemNames}
-use Rattle.aeth_plan_commands.specs.Audit.{audit_command, audit_task}
-use Rattle.aeth_plan_commands.specs.Chain.{chain_command, chain_task}
-use Rattle.aeth_plan_commands.specs.RouteTables.{route_tables_command, route_tables_task}
-use Rattle.aeth_plan_commands.specs.Tables.{tables_command, tables_task}
-use Rattle.aeth_plan_commands.specs.declared.command.PlanCommand.{PlanCommand}
+use Rattle.aeth_plan_commands.specs.{Audit.audit_command, Audit.audit_task, Chain.chain_command}
+use Rattle.aeth_plan_commands.specs.{Chain.chain_task, RouteTables.route_tables_command}
+use Rattle.aeth_plan_commands.specs.{RouteTables.route_tables_task, Tables.tables_command}
+use Rattle.aeth_plan_commands.specs.{Tables.tables_task, declared.command.PlanCommand.PlanCommand}
 use Rattle.aeth_plan_commands.specs.declared.command.PlanCommand.TheVariants as command
 
 -- The command on a plan that a name and the words behind it are, if they are one.

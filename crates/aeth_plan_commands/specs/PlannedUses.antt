@@ -1,17 +1,11 @@
 -- A use case with an accepted plan, which commands read together.
 -- This project's own.
-use Rattle.std.specs.Prelude.{ℕ, List, [], ◌∷◌, Option, Some, None}
-use Rattle.aeth_base.specs.Name.{name_of}
-use Rattle.aeth_base.specs.declared.ids.UseId.{UseId}
-use Rattle.aeth_plan.specs.Plan.{PlanData}
-use Rattle.aeth_plan.specs.declared.design.Design.{Design}
-use Rattle.aeth_answers.specs.Task.{Judging}
-use Rattle.aeth_answers.specs.Words.{◌>>=◌, file_name_of}
-use Rattle.aeth_files.specs.Files.{design_file}
-use Rattle.aeth_files.specs.Plans.{accepted_file}
-use Rattle.aeth_files.specs.Uses.{named_use}
-use Rattle.aeth_plan_commands.specs.declared.planned_uses.PlannedUse.{PlannedUse}
-use Rattle.aeth_plan_commands.specs.declared.planned_uses.UseFiles.{UseFiles}
+use Rattle.std.proofs.Common.{ℕ, List, [], ◌∷◌, Option, Some, None}
+use Rattle.aeth_base.specs.{Name.name_of, declared.ids.UseId.UseId}
+use Rattle.aeth_plan.specs.{Plan.PlanData, declared.design.Design.Design}
+use Rattle.aeth_answers.specs.{Task.Judging, Words.◌>>=◌, Words.file_name_of}
+use Rattle.aeth_files.specs.{Files.design_file, Plans.accepted_file, Uses.named_use}
+use Rattle.aeth_plan_commands.specs.declared.planned_uses.{PlannedUse.PlannedUse, UseFiles.UseFiles}
 
 -- A chip, an application, a plan for these, and a use case.
 pub record PlannedUseData : Type 0 where

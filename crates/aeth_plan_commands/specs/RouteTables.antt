@@ -1,16 +1,13 @@
 -- `route-tables CHIP APP PLAN USE`: the tables of routers that look a table up, in a use case.
 -- This project's own.
-use Rattle.std.specs.Prelude.{ℕ, List, Option, Some}
+use Rattle.std.proofs.Common.{ℕ, List, Option, Some}
 use Rattle.aeth_group.specs.Members.{groups_of}
-use Rattle.aeth_rtable.specs.Rows.{router_rows}
-use Rattle.aeth_rtable.specs.RouteText.{route_text}
-use Rattle.aeth_answers.specs.Job.{Job, done}
-use Rattle.aeth_answers.specs.Task.{Task, ends}
-use Rattle.aeth_answers.specs.Words.{◌>>=◌}
+use Rattle.aeth_rtable.specs.{Rows.router_rows, RouteText.route_text}
+use Rattle.aeth_answers.specs.{Job.Job, Job.done, Task.Task, Task.ends, Words.◌>>=◌}
 use Rattle.aeth_plan_commands.specs.PlannedUses.{PlannedUseData, planned_use, use_files_of}
 use Rattle.aeth_plan_commands.specs.declared.command.PlanCommand.{PlanCommand}
-use Rattle.aeth_plan_commands.specs.declared.command.PlanCommand.TheVariants as command
 use Rattle.aeth_plan_commands.specs.declared.planned_uses.UseFiles.{UseFiles}
+use Rattle.aeth_plan_commands.specs.declared.command.PlanCommand.TheVariants as command
 
 -- CHIP a chip file, APP an application file, PLAN a plan text, USE the name of a use case.
 abbrev pub route_tables_command : List (List ℕ) → Option PlanCommand

@@ -1,23 +1,21 @@
 -- Routes that stand written at one time are of connections that are together, and where their rows
 -- meet they are of one stay; so are slots.
-use Rattle.std.proofs.Common.{◌≡◌, ◌≤◌, ◌<◌, ℕ, ◌+◌, List, [], ◌∷◌, Option, Some, None, length, sym, subst}
-use Rattle.std.proofs.Common.{inr, arith}
-use Rattle.std.specs.Prelude.{IfSome}
+use Rattle.std.proofs.Common.{◌≡◌, ◌≤◌, ◌<◌, ℕ, ◌+◌, List, [], ◌∷◌, Option, Some, None, length, sym}
+use Rattle.std.proofs.Common.{subst, inr, arith, IfSome}
 use Rattle.std.proofs.lemmas.List.Elements.{All-head, All-tail}
 use Rattle.std.proofs.lemmas.Option.{slice_get_within}
 use Rattle.aeth_base.specs.declared.ids.Channel.{Channel}
 use Rattle.aeth_group.specs.Members.{GroupsData, group_at}
-use Rattle.aeth_trace.specs.Spans.{SpanData}
-use Rattle.aeth_trace.specs.declared.switches.SwitchRow.{SwitchRow}
+use Rattle.aeth_trace.specs.{Spans.SpanData, declared.switches.SwitchRow.SwitchRow}
 use Rattle.aeth_report.specs.Sessions.{Stay, Switch, go_by, stays_of}
 use Rattle.aeth_report.proofs.SessionMeetings.{AreInTime, in_time}
 use Rattle.aeth_report.proofs.StayMeetings.{AreRising, Covers, Meet, stays_meet}
 use Rattle.aeth_report.proofs.Stays.{AreKnown, IsClosedBy, IsKnown, stays_of-is, switch_of}
 use Rattle.aeth_report.proofs.StaysAlone.{at-Contains, stays_alone}
 use Rattle.aeth_reconf.specs.Rows.{Meets, RowOf}
-use Rattle.aeth_reconf.specs.Windows.{AreAllApart, AreBothWritten, AreCounted, AreWritable, IsStayAt}
-use Rattle.aeth_reconf.specs.Windows.{IsSlotWritten, IsWritten, cleared_of, clears_from, freed_of}
-use Rattle.aeth_reconf.specs.Windows.{set_of, sets_from}
+use Rattle.aeth_reconf.specs.Windows.{AreAllApart, AreBothWritten, AreCounted, AreWritable}
+use Rattle.aeth_reconf.specs.Windows.{IsStayAt, IsSlotWritten, IsWritten, cleared_of, clears_from}
+use Rattle.aeth_reconf.specs.Windows.{freed_of, set_of, sets_from}
 use Rattle.aeth_reconf.proofs.WindowLemmas.{closing-within, slots_in_order}
 
 module _ (groups : GroupsData) (spans : SpanData) where

@@ -1,19 +1,15 @@
 -- A queue is handed on from stay to stay, and has one owner at a time.
-use Rattle.std.proofs.Common.{◌≡◌, ◌≤◌, ◌<◌, ◌⊎◌, ◌∙◌, ℕ, zero, suc, ◌+◌, List, [], ◌∷◌, Option, Some}
-use Rattle.std.proofs.Common.{None, get_or, slice_get, refl, sym, ap, subst, inl, inr, arith}
-use Rattle.std.specs.Prelude.{IfSome}
-use Rattle.std.proofs.lemmas.Bool.{cases_order}
-use Rattle.std.proofs.lemmas.List.Elements.{All-head, All-tail}
-use Rattle.std.proofs.lemmas.Option.{same_Some, slice_get-get_or, slice_get_within}
+use Rattle.std.proofs.Common.{◌≡◌, ◌≤◌, ◌<◌, ◌⊎◌, ◌∙◌, ℕ, zero, suc, ◌+◌, List, [], ◌∷◌, Option}
+use Rattle.std.proofs.Common.{Some, None, get_or, slice_get, refl, sym, ap, subst, inl, inr, arith}
+use Rattle.std.proofs.Common.{IfSome}
+use Rattle.std.proofs.lemmas.{Bool.cases_order, List.Elements.All-head, List.Elements.All-tail}
+use Rattle.std.proofs.lemmas.{Option.same_Some, Option.slice_get-get_or, Option.slice_get_within}
 use Rattle.aeth_base.specs.declared.ids.Channel.{Channel}
 use Rattle.aeth_group.specs.Members.{GroupsData}
-use Rattle.aeth_trace.specs.Spans.{SpanData}
-use Rattle.aeth_trace.specs.declared.switches.SwitchRow.{SwitchRow}
+use Rattle.aeth_trace.specs.{Spans.SpanData, declared.switches.SwitchRow.SwitchRow}
 use Rattle.aeth_report.specs.Sessions.{Stay, Switch, close_by, go_of, stays_of}
-use Rattle.aeth_report.proofs.SessionMeetings.{in_time}
-use Rattle.aeth_report.proofs.SessionOrder.{stays-after}
-use Rattle.aeth_report.proofs.Stays.{AreKnown, IsKnown, stays_of-is}
-use Rattle.aeth_report.proofs.StaysAlone.{at-Contains}
+use Rattle.aeth_report.proofs.{SessionMeetings.in_time, SessionOrder.stays-after, Stays.AreKnown}
+use Rattle.aeth_report.proofs.{Stays.IsKnown, Stays.stays_of-is, StaysAlone.at-Contains}
 use Rattle.aeth_reconf.specs.Rows.{RowOf}
 use Rattle.aeth_reconf.specs.Windows.{AreWritable, AreQueuesApart, IsHandedOn, IsOwned, IsStayAt}
 use Rattle.aeth_reconf.specs.Windows.{clears_from, set_of, since_of}

@@ -1,14 +1,14 @@
 -- The rows of a switch between two use cases, and what its writes touch.
-use Rattle.std.proofs.Common.{◌≡◌, ◌⊎◌, ◌∙◌, ◌+◌, ◌-◌, ℕ, Bool, true, []}
-use Rattle.std.proofs.Common.{◌∷◌, Contains, filter, length, map, refl, sym, ap, subst, inl, inr, arith}
-use Rattle.std.specs.Prelude.{IsTrue, not}
-use Rattle.std.specs.List.{flat_map, range_with_len}
+use Rattle.std.proofs.Common.{◌≡◌, ◌⊎◌, ◌∙◌, ◌+◌, ◌-◌, ℕ, Bool, true, [], ◌∷◌, Contains, filter}
+use Rattle.std.proofs.Common.{length, map, refl, sym, ap, subst, inl, inr, arith, IsTrue, not}
 use Rattle.std.proofs.lemmas.Bool.{and_from, and_parts, both_ways, cases_Bool, cases_lt}
 use Rattle.std.proofs.lemmas.Bool.{not_from_false, not_from_true}
 use Rattle.std.proofs.lemmas.List.Elements.{Contains-append_cases}
+use Rattle.std.specs.List.{flat_map, range_with_len}
 use Rattle.aeth_base.specs.declared.ids.Channel.{Channel}
-use Rattle.aeth_base.proofs.Members.{Contains-cases, Contains-filter, Contains-flat_map, Contains-map}
-use Rattle.aeth_base.proofs.Members.{Contains-nil, filter-Contains, flat_map-Contains, map-Contains}
+use Rattle.aeth_base.proofs.Members.{Contains-cases, Contains-filter, Contains-flat_map}
+use Rattle.aeth_base.proofs.Members.{Contains-map, Contains-nil, filter-Contains, flat_map-Contains}
+use Rattle.aeth_base.proofs.Members.{map-Contains}
 use Rattle.aeth_group.specs.Members.{GroupsData, group_at, has_at, is_kept}
 use Rattle.aeth_ni.specs.Program.{closing_writes, entries_after, opening_writes}
 use Rattle.aeth_ni.specs.Switch.{IsSwitch}
@@ -16,10 +16,8 @@ use Rattle.aeth_ni.specs.declared.row.ChannelRow.{ChannelRow}
 use Rattle.aeth_ni.specs.declared.write.Write.{Write}
 use Rattle.aeth_ni.specs.declared.write.Write.TheVariants.{ClearRoute, ClearSlot, SetRoute, SetSlot}
 use Rattle.aeth_ni.proofs.SwitchLemmas.{entered-while_opening, left-while_closing}
-use Rattle.aeth_report.specs.Channels.{channels_with}
-use Rattle.aeth_report.specs.Sessions.{closes, opens}
-use Rattle.aeth_report.proofs.ChannelLemmas.{of_connection}
-use Rattle.aeth_report.proofs.Stays.{kept-is}
+use Rattle.aeth_report.specs.{Channels.channels_with, Sessions.closes, Sessions.opens}
+use Rattle.aeth_report.proofs.{ChannelLemmas.of_connection, Stays.kept-is}
 use Rattle.aeth_reconf.specs.Rows.{AreApart, AreWithin, Meets, RowOf, Touches, rows_closing}
 use Rattle.aeth_reconf.specs.Rows.{rows_entered, rows_kept, rows_left, rows_opening, rows_that}
 use Rattle.aeth_reconf.specs.Rows.{switch_program}

@@ -1,16 +1,14 @@
 -- The stays of a connection come one after the other, whatever is read of a switch.
-use Rattle.std.proofs.Common.{◌≡◌, ◌≤◌, ◌<◌, ◌∙◌, ℕ, Bool, cond, List, [], ◌∷◌, Contains, Option, Some}
-use Rattle.std.proofs.Common.{None, slice_get, ap, subst, inl, inr, arith}
-use Rattle.std.specs.Prelude.{not}
+use Rattle.std.proofs.Common.{◌≡◌, ◌≤◌, ◌<◌, ◌∙◌, ℕ, Bool, cond, List, [], ◌∷◌, Contains, Option}
+use Rattle.std.proofs.Common.{Some, None, slice_get, ap, subst, inl, inr, arith, not}
 use Rattle.std.proofs.lemmas.Bool.{and_right, both_ways, cases_Bool, not_from_true}
 use Rattle.aeth_base.proofs.Members.{Contains-nil}
 use Rattle.aeth_group.specs.Members.{GroupsData, has_at, is_kept}
 use Rattle.aeth_trace.specs.declared.switches.SwitchRow.{SwitchRow}
 use Rattle.aeth_report.specs.Sessions.{Stay, Switch, closing_in, opens, stay_with, stays_behind}
 use Rattle.aeth_report.specs.Sessions.{stays_of}
-use Rattle.aeth_report.proofs.Stays.{opened, stay_with-cases, stay_with-place, switch_of}
-use Rattle.aeth_report.proofs.StayMeetings.{AreRising}
-use Rattle.aeth_report.proofs.StaysAlone.{at-Contains}
+use Rattle.aeth_report.proofs.{Stays.opened, Stays.stay_with-cases, Stays.stay_with-place}
+use Rattle.aeth_report.proofs.{Stays.switch_of, StayMeetings.AreRising, StaysAlone.at-Contains}
 
 module _ (groups : GroupsData) (bound : Switch → ℕ) where
   -- What is read of the switch that opens a stay; 0 where none does.

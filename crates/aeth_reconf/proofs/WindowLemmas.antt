@@ -1,23 +1,20 @@
 -- The windows of stays: their order.
 use Rattle.std.proofs.Common.{◌≡◌, ◌≤◌, ◌<◌, ◌+◌, ℕ, Bool, true, List, [], ◌∷◌, Contains, Option}
-use Rattle.std.proofs.Common.{Some, None, filter, length, refl, ap, subst, inl, inr, arith}
-use Rattle.std.specs.Prelude.{IfSome, IsTrue, sum_by}
-use Rattle.std.specs.List.{range_with_len}
+use Rattle.std.proofs.Common.{Some, None, filter, length, refl, ap, subst, inl, inr, arith, IfSome}
+use Rattle.std.proofs.Common.{IsTrue, sum_by}
 use Rattle.std.proofs.lemmas.List.Elements.{All-head, All-tail}
-use Rattle.aeth_base.specs.declared.ids.Channel.{Channel}
-use Rattle.aeth_base.specs.declared.ids.ConnId.{ConnId}
-use Rattle.aeth_base.specs.declared.ids.Side.{Side}
-use Rattle.aeth_base.specs.declared.ids.Side.TheVariants.{Back, Fwd}
-use Rattle.aeth_base.proofs.Members.{Contains-filter, Contains-flat_map, Contains-here, Contains-nil}
-use Rattle.aeth_base.proofs.Members.{Contains-there}
+use Rattle.std.specs.List.{range_with_len}
+use Rattle.aeth_base.specs.declared.ids.{Channel.Channel, ConnId.ConnId, Side.Side}
+use Rattle.aeth_base.specs.declared.ids.{Side.TheVariants.Back, Side.TheVariants.Fwd}
+use Rattle.aeth_base.proofs.Members.{Contains-filter, Contains-flat_map, Contains-here}
+use Rattle.aeth_base.proofs.Members.{Contains-nil, Contains-there}
 use Rattle.aeth_base.proofs.Ranges.{Contains-range}
 use Rattle.aeth_group.specs.Members.{GroupsData, group_at, has_at}
 use Rattle.aeth_ni.specs.Program.{write_count}
-use Rattle.aeth_trace.specs.Spans.{SpanData}
-use Rattle.aeth_trace.specs.declared.switches.SwitchRow.{SwitchRow}
+use Rattle.aeth_trace.specs.{Spans.SpanData, declared.switches.SwitchRow.SwitchRow}
 use Rattle.aeth_report.specs.Channels.{channels_with}
-use Rattle.aeth_report.specs.Sessions.{Stay, Switch, close_by, closes, go_of, opens}
-use Rattle.aeth_report.specs.Sessions.{stays_behind, stays_of}
+use Rattle.aeth_report.specs.Sessions.{Stay, Switch, close_by, closes, go_of, opens, stays_behind}
+use Rattle.aeth_report.specs.Sessions.{stays_of}
 use Rattle.aeth_report.proofs.SessionOrder.{stays-after}
 use Rattle.aeth_report.proofs.Stays.{AreKnown, IsClosedBy, IsKnown, stay_with-cases, switch_of}
 use Rattle.aeth_report.proofs.StaysAlone.{at-Contains}

@@ -1,20 +1,16 @@
 -- How many writes come before those of a channel, and which they are.
-use Rattle.std.proofs.Common.{◌≡◌, ◌≤◌, ◌<◌, ◌∙◌, ◌++◌, ◌+◌, ℕ, zero, suc, List, []}
-use Rattle.std.proofs.Common.{◌∷◌, Contains, length, map, slice_get, refl, sym, ap, inl, inr, arith}
-use Rattle.std.specs.Prelude.{sum_by}
-use Rattle.std.specs.List.{flat_map}
+use Rattle.std.proofs.Common.{◌≡◌, ◌≤◌, ◌<◌, ◌∙◌, ◌++◌, ◌+◌, ℕ, zero, suc, List, [], ◌∷◌, Contains}
+use Rattle.std.proofs.Common.{length, map, slice_get, refl, sym, ap, inl, inr, arith, sum_by}
+use Rattle.std.proofs.Common.{length-append}
 use Rattle.std.proofs.lemmas.Bool.{both_ways, cases_Bool}
-use Rattle.std.proofs.lemmas.List.{length-append}
-use Rattle.std.proofs.lemmas.List.Concat.{flat_map-cons}
-use Rattle.std.proofs.lemmas.List.Sums.{sum_by-cons}
+use Rattle.std.proofs.lemmas.List.{Concat.flat_map-cons, Sums.sum_by-cons}
+use Rattle.std.specs.List.{flat_map}
 use Rattle.aeth_base.specs.declared.ids.Channel.{Channel}
 use Rattle.aeth_base.proofs.Members.{Contains-cases, Contains-nil}
 use Rattle.aeth_ni.specs.Program.{write_count}
-use Rattle.aeth_ni.specs.declared.row.ChannelRow.{ChannelRow}
-use Rattle.aeth_ni.specs.declared.write.Write.{Write}
+use Rattle.aeth_ni.specs.declared.{row.ChannelRow.ChannelRow, write.Write.Write}
 use Rattle.aeth_trace.specs.Channels.{is_channel}
-use Rattle.aeth_reconf.specs.Rows.{RowOf}
-use Rattle.aeth_reconf.specs.Windows.{ahead_of}
+use Rattle.aeth_reconf.specs.{Rows.RowOf, Windows.ahead_of}
 use Rattle.aeth_report.proofs.ChannelLemmas.{is_channel-itself, same_channel}
 
 -- What comes at a place of one list behind another.

@@ -1,30 +1,24 @@
 -- Each write of a switch is one of those of a channel.
-use Rattle.std.proofs.Common.{◌≡◌, ◌≤◌, ◌<◌, ◌⊎◌, ◌∙◌, ◌+◌, ◌-◌, ◌++◌, ℕ, zero, suc, Bool, true, false, List}
-use Rattle.std.proofs.Common.{[], ◌∷◌, Contains, filter, length, map, refl, sym, ap, subst, inl, inr}
-use Rattle.std.proofs.Common.{arith}
-use Rattle.std.specs.Prelude.{sum_by, ⊤}
-use Rattle.std.specs.List.{flat_map, range_with_len}
+use Rattle.std.proofs.Common.{◌≡◌, ◌≤◌, ◌<◌, ◌⊎◌, ◌∙◌, ◌+◌, ◌-◌, ◌++◌, ℕ, zero, suc, Bool, true}
+use Rattle.std.proofs.Common.{false, List, [], ◌∷◌, Contains, filter, length, map, refl, sym, ap}
+use Rattle.std.proofs.Common.{subst, inl, inr, arith, sum_by, length-append}
 use Rattle.std.proofs.lemmas.Bool.{cases_Bool, cases_lt}
-use Rattle.std.proofs.lemmas.List.{length-append}
-use Rattle.std.proofs.lemmas.List.Concat.{flat_map-cons}
-use Rattle.std.proofs.lemmas.List.Sums.{sum_by-cons}
-use Rattle.aeth_base.specs.declared.ids.Channel.{Channel}
-use Rattle.aeth_base.specs.declared.ids.Side.TheVariants.{Back, Fwd}
+use Rattle.std.proofs.lemmas.List.{Concat.flat_map-cons, Sums.sum_by-cons, Elements.All-contains}
+use Rattle.std.specs.{Prelude.⊤, List.flat_map, List.range_with_len}
+use Rattle.aeth_base.specs.{declared.ids.Channel.Channel, declared.ids.Side.TheVariants.Back}
+use Rattle.aeth_base.specs.{declared.ids.Side.TheVariants.Fwd, Sides.same_side}
 use Rattle.aeth_base.proofs.Members.{Contains-cases, Contains-here, Contains-nil, Contains-there}
 use Rattle.aeth_base.proofs.Members.{filter-Contains, flat_map-Contains}
 use Rattle.aeth_base.proofs.Ranges.{All-range}
-use Rattle.std.proofs.lemmas.List.Elements.{All-contains}
 use Rattle.aeth_group.specs.Members.{GroupsData, group_at}
 use Rattle.aeth_ni.specs.Program.{closing_writes, opening_writes, write_count}
-use Rattle.aeth_base.specs.Sides.{same_side}
-use Rattle.aeth_trace.specs.Channels.{is_channel}
-use Rattle.aeth_trace.specs.Spans.{SpanData}
+use Rattle.aeth_ni.proofs.ProgramLemmas.{length-closing_writes, length-opening_writes}
+use Rattle.aeth_trace.specs.{Channels.is_channel, Spans.SpanData}
 use Rattle.aeth_report.specs.Channels.{channels_with}
 use Rattle.aeth_report.specs.Sessions.{Switch, closes, opens}
 use Rattle.aeth_report.proofs.ChannelLemmas.{is_channel-itself, of_connection, same_channel}
 use Rattle.aeth_reconf.specs.Rows.{RowOf, channels_that, rows_closing, rows_opening, switch_program}
 use Rattle.aeth_reconf.specs.Windows.{IsClosingWrite, IsOpeningWrite, ahead_of}
-use Rattle.aeth_ni.proofs.ProgramLemmas.{length-closing_writes, length-opening_writes}
 use Rattle.aeth_reconf.proofs.WriteCounts.{length-writes}
 
 -- ---- channels that differ

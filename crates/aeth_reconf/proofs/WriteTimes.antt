@@ -1,24 +1,21 @@
 -- The writes of a switch are made in the cycles of the windows.
-use Rattle.std.proofs.Common.{◌≡◌, ◌<◌, ◌∙◌, ◌+◌, ◌++◌, ℕ, suc, List, [], ◌∷◌, Some, ap, length, map}
-use Rattle.std.proofs.Common.{slice_get, arith}
+use Rattle.std.proofs.Common.{◌≡◌, ◌<◌, ◌∙◌, ◌+◌, ◌++◌, ℕ, suc, List, [], ◌∷◌, Some, ap, length}
+use Rattle.std.proofs.Common.{map, slice_get, arith}
+use Rattle.std.proofs.lemmas.{List.length-map, Option.slice_get_within}
 use Rattle.std.specs.List.{flat_map}
-use Rattle.std.proofs.lemmas.List.{length-map}
-use Rattle.std.proofs.lemmas.Option.{slice_get_within}
-use Rattle.aeth_base.specs.declared.ids.Channel.{Channel}
-use Rattle.aeth_base.proofs.Lists.{map-at}
+use Rattle.aeth_base.{specs.declared.ids.Channel.Channel, proofs.Lists.map-at}
 use Rattle.aeth_group.specs.Members.{GroupsData, group_at}
 use Rattle.aeth_ni.specs.Program.{closing_writes, opening_writes, write_count}
 use Rattle.aeth_ni.specs.declared.write.Write.{Write}
 use Rattle.aeth_ni.specs.declared.write.Write.TheVariants.{ClearRoute, ClearSlot, SetSlot}
+use Rattle.aeth_ni.proofs.ProgramLemmas.{length-closing_writes, length-opening_writes}
 use Rattle.aeth_trace.specs.Spans.{SpanData}
 use Rattle.aeth_report.specs.Sessions.{Switch, closes, opens}
 use Rattle.aeth_reconf.specs.Rows.{RowOf, channels_that, rows_closing, rows_opening, switch_program}
 use Rattle.aeth_reconf.specs.Windows.{IsClosed, IsOpened, cleared_of, clears_from, closing_ahead}
 use Rattle.aeth_reconf.specs.Windows.{freed_of, opening_ahead, set_of, set_route, slot_set_of}
 use Rattle.aeth_reconf.proofs.WindowLemmas.{channels_that-has}
-use Rattle.aeth_ni.proofs.ProgramLemmas.{length-closing_writes, length-opening_writes}
-use Rattle.aeth_reconf.proofs.WriteCounts.{ahead_of-within, before, behind, length-writes}
-use Rattle.aeth_reconf.proofs.WriteCounts.{write_at}
+use Rattle.aeth_reconf.proofs.WriteCounts.{ahead_of-within, before, behind, length-writes, write_at}
 
 module _ (groups : GroupsData) (row_of : RowOf) (spans : SpanData) (switch : Switch)
     (channel : Channel) where

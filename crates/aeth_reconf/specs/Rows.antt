@@ -9,7 +9,7 @@
 --   AreWithin      entries that are all of some rows
 -- Slot tables that are written while the network runs: after Æthereal (2005). The rest: this
 -- project's own.
-use Rattle.std.specs.Prelude.{◌≡◌, ◌⊎◌, ℕ, Bool, IsTrue, List, Contains, filter, flat_map, map}
+use Rattle.std.proofs.Common.{◌≡◌, ◌⊎◌, ℕ, Bool, IsTrue, List, Contains, filter, flat_map, map}
 use Rattle.std.specs.List.{range_with_len}
 use Rattle.aeth_base.specs.declared.ids.Channel.{Channel}
 use Rattle.aeth_group.specs.Members.{GroupsData, group_at, has_at, is_kept}
@@ -18,8 +18,7 @@ use Rattle.aeth_ni.specs.Switch.{entries_in}
 use Rattle.aeth_ni.specs.declared.row.ChannelRow.{ChannelRow}
 use Rattle.aeth_ni.specs.declared.write.Write.{Write}
 use Rattle.aeth_ni.specs.declared.write.Write.TheVariants.{ClearRoute, ClearSlot, SetRoute, SetSlot}
-use Rattle.aeth_report.specs.Channels.{channels_with}
-use Rattle.aeth_report.specs.Sessions.{closes, opens}
+use Rattle.aeth_report.specs.{Channels.channels_with, Sessions.closes, Sessions.opens}
 
 -- The row of each channel in each group, by which it is in the tables of its interface.
 abbrev pub RowOf : Type 0

@@ -4,11 +4,10 @@
 --   begun, closed_of      the session that begins with a use case, and that a switch closes
 --   rest_of      what is still to come of a connection's sessions
 -- This project's own.
-use Rattle.std.specs.Prelude.{ℕ, List, [], ◌∷◌, map, option_map, Option, Some, None, if◌then◌else◌}
+use Rattle.std.proofs.Common.{ℕ, List, [], ◌∷◌, map, option_map, Option, Some, None, if◌then◌else◌}
 use Rattle.std.specs.List.{range_with_len, slice_index_or}
 use Rattle.aeth_group.specs.Members.{GroupsData, group_at, has_at}
-use Rattle.aeth_trace.specs.Spans.{SpanData}
-use Rattle.aeth_trace.specs.declared.switches.SwitchRow.{SwitchRow}
+use Rattle.aeth_trace.specs.{Spans.SpanData, declared.switches.SwitchRow.SwitchRow}
 use Rattle.aeth_report.specs.declared.session.Session.{Session}
 use Rattle.aeth_report.specs.Sessions.{Switch, close_by, closing_in, session_of, sessions_of}
 use Rattle.aeth_report.specs.Sessions.{stays_behind}

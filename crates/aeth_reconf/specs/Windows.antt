@@ -16,19 +16,15 @@
 --   IsWritten, IsSlotWritten      within these
 --   AreWritable, AreBothWritten      rows that can be written, and two routes that stand written
 -- One write in a cycle, through one central port: this project's own.
-use Rattle.std.specs.Prelude.{◌≡◌, ◌≤◌, ◌<◌, ℕ, zero, suc, ◌+◌, if◌then◌else◌, List, [], ◌∷◌}
-use Rattle.std.specs.Prelude.{IfSome, IsTrue, Option, Some, None, All, Ok, length, option_map}
-use Rattle.std.specs.Prelude.{slice_get, sum_by, unwrap_or}
+use Rattle.std.proofs.Common.{◌≡◌, ◌≤◌, ◌<◌, ℕ, zero, suc, ◌+◌, if◌then◌else◌, List, [], ◌∷◌}
+use Rattle.std.proofs.Common.{IfSome, IsTrue, Option, Some, None, All, Ok, length, option_map}
+use Rattle.std.proofs.Common.{slice_get, sum_by, unwrap_or}
 use Rattle.aeth_base.specs.declared.ids.Channel.{Channel}
 use Rattle.aeth_group.specs.Members.{GroupsData, group_at, has_at}
-use Rattle.aeth_ni.specs.Program.{write_count}
-use Rattle.aeth_ni.specs.declared.row.ChannelRow.{ChannelRow}
-use Rattle.aeth_ni.specs.declared.write.Write.{Write}
-use Rattle.aeth_ni.specs.declared.write.Write.TheVariants.{SetRoute}
-use Rattle.aeth_trace.specs.Channels.{is_channel}
-use Rattle.aeth_trace.specs.Spans.{SpanData, span_of}
-use Rattle.aeth_trace.specs.Switches.{are_apart}
-use Rattle.aeth_trace.specs.declared.switches.SwitchRow.{SwitchRow}
+use Rattle.aeth_ni.specs.{Program.write_count, declared.row.ChannelRow.ChannelRow}
+use Rattle.aeth_ni.specs.{declared.write.Write.Write, declared.write.Write.TheVariants.SetRoute}
+use Rattle.aeth_trace.specs.{Channels.is_channel, Spans.SpanData, Spans.span_of, Switches.are_apart}
+use Rattle.aeth_trace.specs.{declared.switches.SwitchRow.SwitchRow}
 use Rattle.aeth_report.specs.Sessions.{Stay, Switch, close_by, closes, go_of, opens, stays_of}
 use Rattle.aeth_reconf.specs.Rows.{AreApart, RowOf, channels_that, rows_closing, rows_opening}
 

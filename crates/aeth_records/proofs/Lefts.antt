@@ -1,11 +1,9 @@
 -- What a read takes of the records that are left.
 use Rattle.std.proofs.Common.{◌≡◌, ◌∙◌, ◌+◌, ◌∷◌, ℕ, List, [], Bool, true, false, length, Some}
-use Rattle.std.proofs.Common.{refl, sym, ap, arith, inl, ◌<◌, MatchBool}
-use Rattle.std.specs.Prelude.{unwrap_or}
-use Rattle.csv.specs.Machine.{Read, next_record, ends_at_end}
-use Rattle.csv.specs.Reading.{Reached, ReadRecord, default_config, records_from, records_next}
-use Rattle.csv.specs.Reading.{source_of}
-use Rattle.csv.specs.declared.parser.State.{State}
+use Rattle.std.proofs.Common.{refl, sym, ap, arith, inl, ◌<◌, MatchBool, unwrap_or}
+use Rattle.csv.specs.{Machine.Read, Machine.next_record, Machine.ends_at_end, Reading.Reached}
+use Rattle.csv.specs.{Reading.ReadRecord, Reading.default_config, Reading.records_from}
+use Rattle.csv.specs.{Reading.records_next, Reading.source_of, declared.parser.State.State}
 use Rattle.csv.proofs.ReadFacts.{rows-end, rows-more}
 use Rattle.aeth_records.specs.Left.{SliceReader, IsReading, bytes_left, known, left}
 use Rattle.aeth_records.proofs.Steps.{next_leaves, next_shorter, records_from_enough}

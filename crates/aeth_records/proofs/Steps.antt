@@ -1,16 +1,13 @@
 -- A record takes at least one byte, and after it the machine stands between two records.
 use Rattle.std.proofs.Common.{◌≡◌, ◌∙◌, ◌++◌, ◌+◌, ◌<◌, ◌≤◌, ℕ, zero, suc, Bool, true, false, ◌==◌}
 use Rattle.std.proofs.Common.{List, [], ◌∷◌, length, Option, Some, None, refl, sym, ap, arith}
-use Rattle.std.proofs.Common.{add-one}
-use Rattle.std.specs.Prelude.{if◌then◌else◌}
-use Rattle.std.proofs.lemmas.Bool.{false≢true}
-use Rattle.std.proofs.lemmas.Option.{same_Some}
+use Rattle.std.proofs.Common.{add-one, if◌then◌else◌}
+use Rattle.std.proofs.lemmas.{Bool.false≢true, Option.same_Some}
 use Rattle.csv.specs.Machine.{Read, step, in_field, start_field, is_end, ends_at_end, ends_with}
 use Rattle.csv.specs.Machine.{fields_after, field_after, next_record, line_feed, carriage_return}
 use Rattle.csv.specs.Reading.{default_config, records_from, records_next}
-use Rattle.csv.specs.declared.parser.State.{State}
+use Rattle.csv.specs.declared.parser.{State.State, Action.Action}
 use Rattle.csv.specs.declared.parser.State.TheVariants as st
-use Rattle.csv.specs.declared.parser.Action.{Action}
 use Rattle.csv.specs.declared.parser.Action.TheVariants as act
 use Rattle.csv.specs.declared.parser.Terminator.TheVariants as term
 

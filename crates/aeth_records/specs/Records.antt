@@ -1,5 +1,5 @@
 -- The records of a file, as `csv` reads them.
-use Rattle.std.specs.Prelude.{ℕ, List}
+use Rattle.std.proofs.Common.{ℕ, List}
 use Rattle.csv.specs.Reading.{default_config, records, strip_bom}
 
 -- The records of bytes with the default settings, the header among them: each is the list of its

@@ -1,8 +1,6 @@
 -- Laws of the counts of private servers, as the network needs them.
-use Rattle.std.proofs.Common.{◌≡◌, ◌≤◌, ◌<◌, ◌∙◌, ℕ, suc, ◌+◌, ◌-◌, ◌&&◌, Bool, true, false}
-use Rattle.std.proofs.Common.{cond, ltb, length, ap, arith}
-use Rattle.std.specs.Prelude.{nat_lt}
-use Rattle.std.proofs.lemmas.Bool.{lt-ltb}
+use Rattle.std.proofs.Common.{◌≡◌, ◌≤◌, ◌<◌, ◌∙◌, ℕ, suc, ◌+◌, ◌-◌, ◌&&◌, Bool, true, false, cond}
+use Rattle.std.proofs.Common.{ltb, length, ap, arith, nat_lt, lt-ltb}
 use Rattle.aeth_base.proofs.Filters.{filter-few}
 use Rattle.aeth_server.specs.PrivateServer.{PrivateServer, accepted, arrived, credited, landed}
 use Rattle.aeth_server.specs.PrivateServer.{returned, sent, taken}

@@ -1,10 +1,8 @@
 -- No event of another session falls on a queue while it is a session's own.
-use Rattle.std.proofs.Common.{◌≡◌, ◌≢◌, ◌≤◌, ◌<◌, ◌∙◌, ◌⊎◌, ℕ, suc}
-use Rattle.std.proofs.Common.{sym, ap, arith, inl, inr}
+use Rattle.std.proofs.Common.{◌≡◌, ◌≢◌, ◌≤◌, ◌<◌, ◌∙◌, ◌⊎◌, ℕ, suc, sym, ap, arith, inl, inr}
 use Rattle.std.proofs.lemmas.Bool.{cases_eq, cases_lt}
 use Rattle.aeth_refinement.specs.Accepted.{HasRoute, IsAccepted}
-use Rattle.aeth_refinement.specs.Switches.{HasEvent, finish_of, freed_of, halt_of}
-use Rattle.aeth_refinement.specs.Switches.{set_of}
+use Rattle.aeth_refinement.specs.Switches.{HasEvent, finish_of, freed_of, halt_of, set_of}
 use Rattle.aeth_refinement.specs.Components.{Net, queue_of}
 use Rattle.aeth_refinement.specs.Fabric.{Fabric, IsSameQueue, Owns, server_at}
 use Rattle.aeth_refinement.proofs.Unique.{some-wires}

@@ -1,33 +1,26 @@
 -- Interfaces emit the flits of the sessions that begin there, and nothing else.
-use Rattle.std.proofs.Common.{◌≡◌, ◌<◌, ◌∙◌, ℕ, zero, suc, ◌+◌, ◌%◌}
-use Rattle.std.proofs.Common.{map, Option, Some, None, refl}
+use Rattle.std.proofs.Common.{◌≡◌, ◌<◌, ◌∙◌, ℕ, zero, suc, ◌+◌, ◌%◌, map, Option, Some, None, refl}
 use Rattle.std.proofs.Common.{sym, ap, subst, arith, inl, inr}
-use Rattle.std.proofs.lemmas.Bool.{both_ways}
-use Rattle.std.proofs.lemmas.Option.{same_Some}
+use Rattle.std.proofs.lemmas.{Bool.both_ways, Option.same_Some}
 use Rattle.aeth_clocked.specs.declared.flit.Flit.{Flit}
-use Rattle.aeth_ni.specs.Queue.{QueueState}
-use Rattle.aeth_ni.specs.Sending.{emitted, next_flit}
-use Rattle.aeth_ni.specs.declared.queue.Route.{Route}
+use Rattle.aeth_ni.specs.{Queue.QueueState, Sending.emitted, Sending.next_flit}
+use Rattle.aeth_ni.specs.{declared.queue.Route.Route}
 use Rattle.aeth_report.specs.Carries.{returns, sends}
-use Rattle.aeth_router.specs.Ports.{flits_for, sole}
+use Rattle.aeth_report.proofs.SessionMeetings.{mapped_at}
+use Rattle.aeth_router.{specs.Ports.flits_for, specs.Ports.sole, proofs.PortLemmas.Alone-from_sole}
 use Rattle.aeth_refinement.specs.Accepted.{IsAccepted}
 use Rattle.aeth_refinement.specs.Carried.{Comes, Exact, IsOnWire, flit_of}
 use Rattle.aeth_refinement.specs.Switches.{route_of}
-use Rattle.aeth_refinement.specs.Components.{Net, driven, emit, emitted_by}
-use Rattle.aeth_refinement.specs.Components.{queue_of}
-use Rattle.aeth_refinement.specs.Fabric.{AtInterface, AtRouter, AtStage, Fabric}
-use Rattle.aeth_refinement.specs.Fabric.{WireEnd, flow_at}
+use Rattle.aeth_refinement.specs.Components.{Net, driven, emit, emitted_by, queue_of}
+use Rattle.aeth_refinement.specs.Fabric.{AtInterface, AtRouter, AtStage, Fabric, WireEnd, flow_at}
 use Rattle.aeth_refinement.specs.Standing.{Stands}
 use Rattle.aeth_refinement.proofs.Queues.{emitted-parts, emitted-some}
 use Rattle.aeth_refinement.proofs.Ready.{Enough}
-use Rattle.aeth_report.proofs.SessionMeetings.{mapped_at}
-use Rattle.aeth_router.proofs.PortLemmas.{Alone-from_sole}
 use Rattle.aeth_refinement.proofs.Routers.{not_both, not_end, place_before, router_all, router_only}
 use Rattle.aeth_refinement.proofs.Routers.{same_interface, stage_all, stage_only, starts_at}
-use Rattle.aeth_refinement.proofs.Unique.{injects-some}
-use Rattle.aeth_refinement.proofs.Unique.{some-injected}
-use Rattle.aeth_refinement.proofs.Sending.{RunsAt, credits-sent, entry-runs, flit-sent}
-use Rattle.aeth_refinement.proofs.Sending.{injecting, queue-there, words-sent}
+use Rattle.aeth_refinement.proofs.Unique.{injects-some, some-injected}
+use Rattle.aeth_refinement.proofs.Sending.{RunsAt, credits-sent, entry-runs, flit-sent, injecting}
+use Rattle.aeth_refinement.proofs.Sending.{queue-there, words-sent}
 
 module _ (fabric : Fabric) (ok : IsAccepted fabric) (t : ℕ) (net : Net)
     (at : Stands fabric (suc t) t net) (enough : Enough fabric ok t net) where

@@ -1,9 +1,9 @@
 -- What the wires of a cycle bring to the queue at which a session lands.
 use Rattle.std.proofs.Common.{◌≡◌, ◌≤◌, ◌<◌, ◌∙◌, ℕ, suc, ◌+◌, ◌-◌, Bool, cond, [], length, Option}
-use Rattle.std.proofs.Common.{Some, None, true, refl, sym, ap, subst, arith, inl, inr}
-use Rattle.std.proofs.lemmas.Bool.{cases_Bool, cases_lt, eqb-false, eqb-true}
+use Rattle.std.proofs.Common.{Some, None, true, refl, sym, ap, subst, arith, inl, inr, eqb-true}
+use Rattle.std.proofs.Common.{◌==◌}
+use Rattle.std.proofs.lemmas.Bool.{cases_Bool, cases_lt, eqb-false}
 use Rattle.std.proofs.lemmas.Option.{slice_get_within}
-use Rattle.std.specs.Prelude.{◌==◌}
 use Rattle.aeth_clocked.specs.declared.flit.Flit.{Flit}
 use Rattle.aeth_ni.specs.Component.{Arrival, arrival_of}
 use Rattle.aeth_report.specs.Carries.{header_at, returns, sends, words_at}

@@ -1,25 +1,19 @@
 -- What the queue of a session is behind the drive.
-use Rattle.std.proofs.Common.{◌≡◌, ◌≤◌, ◌<◌, ◌∙◌, ℕ, suc, ◌+◌, ◌-◌, ◌%◌}
-use Rattle.std.proofs.Common.{Bool}
-use Rattle.std.proofs.Common.{true, cond, Option, refl}
-use Rattle.std.proofs.Common.{sym, ap, subst, arith, inl, inr}
-use Rattle.std.proofs.lemmas.Bool.{cases_Bool, cases_lt, both_ways, eq-eqb}
+use Rattle.std.proofs.Common.{◌≡◌, ◌≤◌, ◌<◌, ◌∙◌, ℕ, suc, ◌+◌, ◌-◌, ◌%◌, Bool, true, cond, Option}
+use Rattle.std.proofs.Common.{refl, sym, ap, subst, arith, inl, inr, eq-eqb}
+use Rattle.std.proofs.lemmas.Bool.{cases_Bool, cases_lt, both_ways}
 use Rattle.aeth_ni.specs.Sending.{credits_sent, flit_sent}
 use Rattle.aeth_report.specs.Carries.{returns, sends}
 use Rattle.aeth_server.specs.PrivateServer.{sent}
-use Rattle.aeth_refinement.specs.Accepted.{IsAccepted}
-use Rattle.aeth_refinement.specs.Switches.{route_of}
-use Rattle.aeth_refinement.specs.Components.{Net, after, is_entry}
-use Rattle.aeth_refinement.specs.Components.{queue_of}
-use Rattle.aeth_refinement.specs.Fabric.{Fabric}
-use Rattle.aeth_refinement.specs.Fabric.{Owns, flow_at, has_slot, server_at}
-use Rattle.aeth_refinement.specs.Standing.{IsRunning, Stands}
+use Rattle.aeth_refinement.specs.{Accepted.IsAccepted, Switches.route_of, Components.Net}
+use Rattle.aeth_refinement.specs.{Components.after, Components.is_entry, Components.queue_of}
+use Rattle.aeth_refinement.specs.{Fabric.Fabric, Fabric.Owns, Fabric.flow_at, Fabric.has_slot}
+use Rattle.aeth_refinement.specs.{Fabric.server_at, Standing.IsRunning, Standing.Stands}
 use Rattle.aeth_refinement.proofs.Owning.{owns-running, waiting-length}
-use Rattle.aeth_refinement.proofs.Queues.{flit_sent-behind}
-use Rattle.aeth_refinement.proofs.Queues.{flit_sent-halted, without, without-none}
+use Rattle.aeth_refinement.proofs.Queues.{flit_sent-behind, flit_sent-halted, without, without-none}
 use Rattle.aeth_refinement.proofs.Ready.{Enough}
-use Rattle.aeth_refinement.proofs.Sending.{IsInjecting, credits-sent, entry-runs}
-use Rattle.aeth_refinement.proofs.Sending.{injecting, named-entry, words-sent}
+use Rattle.aeth_refinement.proofs.Sending.{IsInjecting, credits-sent, entry-runs, injecting}
+use Rattle.aeth_refinement.proofs.Sending.{named-entry, words-sent}
 
 module _ (fabric : Fabric) (ok : IsAccepted fabric) (t : ℕ) (net : Net)
     (at : Stands fabric (suc t) t net) (enough : Enough fabric ok t net) where

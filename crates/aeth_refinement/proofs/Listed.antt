@@ -1,12 +1,9 @@
 -- The wires have the one member of `carries`, or nothing where it is empty.
 use Rattle.std.proofs.Common.{◌≡◌, ◌<◌, ◌∙◌, ℕ, zero, suc, ◌+◌, ◌-◌, ◌&&◌, Bool, true, cond, List}
-use Rattle.std.proofs.Common.{[], ◌∷◌}
-use Rattle.std.proofs.Common.{Option, Some, None, slice_get, refl, sym, ap, subst, arith, inl, inr}
-use Rattle.std.proofs.lemmas.Bool.{cases_Bool, and_from, and_parts, eqb-true, eq-eqb, leb-true}
-use Rattle.std.proofs.lemmas.Bool.{le-leb}
-use Rattle.std.specs.List.{enumerate_from, range_with_len}
-use Rattle.std.specs.Option.{option_to_list}
-use Rattle.std.specs.Prelude.{◌==◌, IsTrue, nat_le}
+use Rattle.std.proofs.Common.{[], ◌∷◌, Option, Some, None, slice_get, refl, sym, ap, subst, arith}
+use Rattle.std.proofs.Common.{inl, inr, eqb-true, eq-eqb, leb-true, le-leb, ◌==◌, IsTrue, nat_le}
+use Rattle.std.proofs.lemmas.Bool.{cases_Bool, and_from, and_parts}
+use Rattle.std.specs.{List.enumerate_from, List.range_with_len, Option.option_to_list}
 use Rattle.aeth_clocked.specs.declared.flit.Flit.{Flit}
 use Rattle.aeth_report.specs.Carries.{injects}
 use Rattle.aeth_report.proofs.Places.{enumerate_from-place, flat_map-none, flat_map-sole}

@@ -5,14 +5,12 @@ use Rattle.std.proofs.lemmas.Bool.{cases_lt}
 use Rattle.aeth_clocked.specs.declared.flit.Flit.{Flit}
 use Rattle.aeth_server.specs.PrivateServer.{landed, sent, taken}
 use Rattle.aeth_server.proofs.PrivateServerLemmas.{in-order}
-use Rattle.aeth_refinement.specs.Accepted.{IsAccepted}
-use Rattle.aeth_refinement.specs.Carried.{Exact}
-use Rattle.aeth_refinement.specs.Components.{Net, queue_of}
-use Rattle.aeth_refinement.specs.Fabric.{Fabric, IsGoing, IsSameQueue, Owns, flow_at, server_at}
-use Rattle.aeth_refinement.specs.Standing.{IsRunning, Stands}
-use Rattle.aeth_refinement.proofs.Counts.{arrived-most}
-use Rattle.aeth_refinement.proofs.Unique.{known-back, paths-of}
-use Rattle.aeth_refinement.proofs.Words.{length-words_from}
+use Rattle.aeth_refinement.specs.{Accepted.IsAccepted, Carried.Exact, Components.Net}
+use Rattle.aeth_refinement.specs.{Components.queue_of, Fabric.Fabric, Fabric.IsGoing}
+use Rattle.aeth_refinement.specs.{Fabric.IsSameQueue, Fabric.Owns, Fabric.flow_at, Fabric.server_at}
+use Rattle.aeth_refinement.specs.{Standing.IsRunning, Standing.Stands}
+use Rattle.aeth_refinement.proofs.{Counts.arrived-most, Unique.known-back, Unique.paths-of}
+use Rattle.aeth_refinement.proofs.{Words.length-words_from}
 
 -- Wires that have the same are exact alike.
 pub exact-same : (fabric : Fabric) (t : ℕ) (one other : ℕ → Option Flit)

@@ -1,25 +1,19 @@
 -- What one queue of an interface emits, is behind a flit, and is once words have come or were
 -- taken.
-use Rattle.std.proofs.Common.{◌≡◌, ◌≤◌, ◌<◌, ◌∙◌, ℕ, ◌+◌, ◌-◌, ◌||◌, Bool, true}
-use Rattle.std.proofs.Common.{false}
-use Rattle.std.proofs.Common.{cond, List, [], ◌++◌, length, drop, Option, Some, None}
-use Rattle.std.proofs.Common.{is_some, refl}
-use Rattle.std.proofs.Common.{sym, ap, subst, arith, inl, inr, ◌⊎◌}
-use Rattle.std.proofs.lemmas.Bool.{cases_Bool, cases_lt, and_from, and_parts, both_ways, eq-eqb}
-use Rattle.std.proofs.lemmas.Bool.{eqb-true}
+use Rattle.std.proofs.Common.{◌≡◌, ◌≤◌, ◌<◌, ◌∙◌, ℕ, ◌+◌, ◌-◌, ◌||◌, Bool, true, false, cond, List}
+use Rattle.std.proofs.Common.{[], ◌++◌, length, drop, Option, Some, None, is_some, refl, sym, ap}
+use Rattle.std.proofs.Common.{subst, arith, inl, inr, ◌⊎◌, eq-eqb, eqb-true, ◌==◌, option_map}
+use Rattle.std.proofs.Common.{append-nil}
+use Rattle.std.proofs.lemmas.Bool.{cases_Bool, cases_lt, and_from, and_parts, both_ways}
 use Rattle.std.proofs.lemmas.Option.{same_Some}
-use Rattle.std.specs.Prelude.{◌==◌, option_map}
 use Rattle.aeth_clocked.specs.declared.flit.Flit.{Flit}
-use Rattle.aeth_ni.specs.Limits.{max_count}
-use Rattle.aeth_ni.specs.Queue.{QueueState, flit_landed}
-use Rattle.aeth_ni.specs.Sending.{behind_flit, credits_sent, emitted, flit_sent, is_idle, next_flit}
-use Rattle.aeth_ni.specs.Sending.{sending, words_sent}
-use Rattle.aeth_ni.specs.declared.queue.Route.{Route}
+use Rattle.aeth_ni.specs.{Limits.max_count, Queue.QueueState, Queue.flit_landed}
+use Rattle.aeth_ni.specs.{Sending.behind_flit, Sending.credits_sent, Sending.emitted}
+use Rattle.aeth_ni.specs.{Sending.flit_sent, Sending.is_idle, Sending.next_flit, Sending.sending}
+use Rattle.aeth_ni.specs.{Sending.words_sent, declared.queue.Route.Route, Component.Arrival}
+use Rattle.aeth_ni.proofs.QueueLemmas.{flit_landed-whole}
 use Rattle.aeth_refinement.specs.Components.{brought_by, credits_for, is_entry, sent_from}
 use Rattle.aeth_refinement.specs.Components.{words_for}
-use Rattle.aeth_ni.specs.Component.{Arrival}
-use Rattle.aeth_ni.proofs.QueueLemmas.{flit_landed-whole}
-use Rattle.std.proofs.lemmas.List.{append-nil}
 
 -- A queue without so many words and credits.
 abbrev pub without : ℕ → ℕ → QueueState → QueueState

@@ -2,19 +2,15 @@
 use Rattle.std.proofs.Common.{◌≡◌, ◌≤◌, ◌<◌, ◌∙◌, ℕ, suc, ◌+◌, ◌-◌, min, List, ◌++◌, sym, ap, arith}
 use Rattle.std.proofs.Common.{inl, inr}
 use Rattle.aeth_base.specs.Limits.{words_per_flit}
-use Rattle.aeth_ni.specs.Limits.{waiting_words}
-use Rattle.aeth_ni.specs.Queue.{QueueState}
+use Rattle.aeth_ni.specs.{Limits.waiting_words, Queue.QueueState}
 use Rattle.aeth_server.specs.PrivateServer.{arrived, sent}
 use Rattle.aeth_server.proofs.SessionEnds.{idle-before}
-use Rattle.aeth_refinement.specs.Accepted.{IsAccepted}
-use Rattle.aeth_refinement.specs.Carried.{words_from}
-use Rattle.aeth_refinement.specs.Cycle.{Refilled, handing}
-use Rattle.aeth_refinement.specs.Components.{Net, queue_of}
-use Rattle.aeth_refinement.specs.Fabric.{Fabric, IsGoing, Owns, flow_at, server_at}
-use Rattle.aeth_refinement.specs.Standing.{Stands}
-use Rattle.aeth_refinement.proofs.Owning.{early-alone, exact-same, going-or-early, waiting-length}
-use Rattle.aeth_refinement.proofs.Unique.{paths-of}
-use Rattle.aeth_refinement.proofs.Words.{words_from-append}
+use Rattle.aeth_refinement.specs.{Accepted.IsAccepted, Carried.words_from, Cycle.Refilled}
+use Rattle.aeth_refinement.specs.{Cycle.handing, Components.Net, Components.queue_of, Fabric.Fabric}
+use Rattle.aeth_refinement.specs.{Fabric.IsGoing, Fabric.Owns, Fabric.flow_at, Fabric.server_at}
+use Rattle.aeth_refinement.specs.{Standing.Stands}
+use Rattle.aeth_refinement.proofs.{Owning.early-alone, Owning.exact-same, Owning.going-or-early}
+use Rattle.aeth_refinement.proofs.{Owning.waiting-length, Unique.paths-of, Words.words_from-append}
 
 -- The numbers of a refilling: `old` words handed before, of which `gone` were sent, `all` have
 -- arrived, and `more` are handed now.

@@ -1,9 +1,8 @@
 -- Routers and stages emit the flits that are to go on there, and nothing else.
 use Rattle.std.proofs.Common.{◌≡◌, ◌<◌, ◌∙◌, ℕ, zero, suc, List, length, get_or, map, Option, Some}
-use Rattle.std.proofs.Common.{slice_get, sym, ap, subst, arith, inl, inr}
+use Rattle.std.proofs.Common.{slice_get, sym, ap, subst, arith, inl, inr, option_map}
 use Rattle.std.proofs.lemmas.Bool.{cases_lt}
 use Rattle.std.proofs.lemmas.Option.{same_Some, slice_get-get_or, slice_get-map, slice_get_within}
-use Rattle.std.specs.Prelude.{option_map}
 use Rattle.aeth_clocked.specs.declared.flit.Flit.{Flit}
 use Rattle.aeth_header.specs.Header.{port_of}
 use Rattle.aeth_report.proofs.SessionMeetings.{mapped_at}
@@ -12,8 +11,7 @@ use Rattle.aeth_router.proofs.PortLemmas.{Alone-from_sole, sole-from_Alone}
 use Rattle.aeth_refinement.specs.Accepted.{IsAccepted, IsRouterPlace, IsStagePlace}
 use Rattle.aeth_refinement.specs.Carried.{Comes, Exact, IsOnWire, IsPassed, flit_of}
 use Rattle.aeth_refinement.specs.Fabric.{AtInterface, AtRouter, AtStage, Fabric, IsPlace, WireEnd}
-use Rattle.aeth_refinement.proofs.Routes.{hops-on, names-port, stays}
-use Rattle.aeth_refinement.proofs.Unique.{one_flit}
+use Rattle.aeth_refinement.proofs.{Routes.hops-on, Routes.names-port, Routes.stays, Unique.one_flit}
 
 -- The three kinds of ends differ, and each has one number.
 pub not_both : (r n : ℕ) (end : WireEnd) → end ≡ AtRouter r → end ≡ AtInterface n → ⊥

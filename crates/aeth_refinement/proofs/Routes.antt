@@ -1,7 +1,6 @@
 -- What the header of a flit says at each place of its path.
-use Rattle.std.proofs.Common.{◌≡◌, ◌<◌, ◌∙◌, ℕ, suc, ◌+◌, sym, ap, List, [], ◌∷◌, ◌≤◌}
-use Rattle.std.proofs.Common.{length, take, drop, refl, arith, zero, Some}
-use Rattle.std.specs.Prelude.{slice_index}
+use Rattle.std.proofs.Common.{◌≡◌, ◌<◌, ◌∙◌, ℕ, suc, ◌+◌, sym, ap, List, [], ◌∷◌, ◌≤◌, length, take}
+use Rattle.std.proofs.Common.{drop, refl, arith, zero, Some, slice_index, length-drop}
 use Rattle.aeth_base.specs.Limits.{words_per_flit}
 use Rattle.aeth_clocked.specs.declared.flit.Flit.{Flit}
 use Rattle.aeth_header.specs.Header.{port_of}
@@ -11,12 +10,10 @@ use Rattle.aeth_report.specs.Carries.{flit_at, header_at, words_at, sends}
 use Rattle.aeth_report.proofs.FlitLemmas.{flit_at-next, header_at-packable}
 use Rattle.aeth_router.specs.Ports.{hopped}
 use Rattle.aeth_server.specs.PrivateServer.{sent}
-use Rattle.aeth_refinement.specs.Accepted.{IsAccepted, IsRouterPlace, IsStagePlace}
-use Rattle.aeth_refinement.specs.Carried.{flit_of}
-use Rattle.aeth_refinement.specs.Fabric.{Fabric, flow_at}
-use Rattle.aeth_refinement.proofs.Counts.{arrived-most}
 use Rattle.aeth_server.proofs.PrivateServerLemmas.{fits-flit, in-order}
-use Rattle.std.proofs.lemmas.List.{length-drop}
+use Rattle.aeth_refinement.{specs.Accepted.IsAccepted, specs.Accepted.IsRouterPlace}
+use Rattle.aeth_refinement.{specs.Accepted.IsStagePlace, specs.Carried.flit_of, specs.Fabric.Fabric}
+use Rattle.aeth_refinement.{specs.Fabric.flow_at, proofs.Counts.arrived-most}
 
 -- The words of a flit, of as many as are at hand.
 two_words : (count : ℕ) (words : List ℕ) → count ≤ words_per_flit → count ≤ length words

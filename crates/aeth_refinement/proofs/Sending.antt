@@ -1,33 +1,25 @@
 -- What the queue of a session sends in its slots is what its private server sends.
-use Rattle.std.proofs.Common.{◌≡◌, ◌≤◌, ◌<◌, ◌∙◌, ◌⊎◌, ℕ, suc, ◌+◌, ◌-◌, ◌*◌, ◌/◌, ◌%◌, ◌^◌}
-use Rattle.std.proofs.Common.{min}
-use Rattle.std.proofs.Common.{true, List, length, take, Option, Some, None}
-use Rattle.std.proofs.Common.{sym, ap, arith, inl, inr}
-use Rattle.std.proofs.lemmas.Bool.{cases_lt, eqb-true}
-use Rattle.std.specs.Prelude.{slice_index}
+use Rattle.std.proofs.Common.{◌≡◌, ◌≤◌, ◌<◌, ◌∙◌, ◌⊎◌, ℕ, suc, ◌+◌, ◌-◌, ◌*◌, ◌/◌, ◌%◌, ◌^◌, min}
+use Rattle.std.proofs.Common.{true, List, length, take, Option, Some, None, sym, ap, arith, inl}
+use Rattle.std.proofs.Common.{inr, eqb-true, slice_index}
+use Rattle.std.proofs.lemmas.Bool.{cases_lt}
 use Rattle.aeth_base.specs.Limits.{words_per_flit}
 use Rattle.aeth_clocked.specs.declared.flit.Flit.{Flit}
-use Rattle.aeth_header.specs.Header.{word_of}
-use Rattle.aeth_header.specs.Layout.{port_bits}
+use Rattle.aeth_header.specs.{Header.word_of, Layout.port_bits}
 use Rattle.aeth_ni.specs.Sending.{credits_sent, next_flit, words_sent}
 use Rattle.aeth_report.specs.Carries.{flit_at, returns, sends, words_at}
 use Rattle.aeth_server.specs.PrivateServer.{arrived, returned, sent}
-use Rattle.aeth_server.proofs.PrivateServerLemmas.{words_ready}
-use Rattle.aeth_server.proofs.SessionEnds.{idle-before}
-use Rattle.aeth_refinement.specs.Accepted.{IsAccepted}
-use Rattle.aeth_refinement.specs.Carried.{flit_of}
-use Rattle.aeth_refinement.specs.Switches.{route_of}
-use Rattle.aeth_refinement.specs.Components.{Net, after, is_entry}
-use Rattle.aeth_refinement.specs.Components.{queue_of}
-use Rattle.aeth_refinement.specs.Fabric.{Fabric}
-use Rattle.aeth_refinement.specs.Fabric.{flow_at, has_slot, server_at}
-use Rattle.aeth_refinement.specs.Standing.{HasCounter, IsRunning, Stands}
-use Rattle.aeth_refinement.proofs.Counts.{credited-slot, sent-slot}
-use Rattle.aeth_refinement.proofs.Owning.{owns-running, waiting-length}
-use Rattle.aeth_refinement.proofs.Ready.{Enough}
-use Rattle.aeth_refinement.proofs.Words.{take-words_from}
-use Rattle.aeth_refinement.proofs.Unique.{back_slot-is, early, in-slot, known-back}
-use Rattle.aeth_refinement.proofs.Unique.{paths-of, returns-step, sends-step, slot-is}
+use Rattle.aeth_server.proofs.{PrivateServerLemmas.words_ready, SessionEnds.idle-before}
+use Rattle.aeth_refinement.specs.{Accepted.IsAccepted, Carried.flit_of, Switches.route_of}
+use Rattle.aeth_refinement.specs.{Components.Net, Components.after, Components.is_entry}
+use Rattle.aeth_refinement.specs.{Components.queue_of, Fabric.Fabric, Fabric.flow_at}
+use Rattle.aeth_refinement.specs.{Fabric.has_slot, Fabric.server_at, Standing.HasCounter}
+use Rattle.aeth_refinement.specs.{Standing.IsRunning, Standing.Stands}
+use Rattle.aeth_refinement.proofs.{Counts.credited-slot, Counts.sent-slot, Owning.owns-running}
+use Rattle.aeth_refinement.proofs.{Owning.waiting-length, Ready.Enough, Words.take-words_from}
+use Rattle.aeth_refinement.proofs.{Unique.back_slot-is, Unique.early, Unique.in-slot}
+use Rattle.aeth_refinement.proofs.{Unique.known-back, Unique.paths-of, Unique.returns-step}
+use Rattle.aeth_refinement.proofs.{Unique.sends-step, Unique.slot-is}
 
 -- An entry that names a queue is that queue's.
 pub named-entry : (entry : Option ℕ) (queue : ℕ) → is_entry entry queue ≡ true → entry ≡ Some queue

@@ -1,16 +1,13 @@
 -- The halts, finishes and writes of a cycle lead from the tables of the cycle before to its own.
-use Rattle.std.proofs.Common.{◌≡◌, ◌≢◌, ◌≤◌, ◌<◌, ◌∙◌, ◌⊎◌, ℕ, suc, ◌+◌, ◌-◌, true, false, []}
-use Rattle.std.proofs.Common.{Some, refl}
-use Rattle.std.proofs.Common.{sym, ap, arith, inl, inr}
+use Rattle.std.proofs.Common.{◌≡◌, ◌≢◌, ◌≤◌, ◌<◌, ◌∙◌, ◌⊎◌, ℕ, suc, ◌+◌, ◌-◌, true, false, [], Some}
+use Rattle.std.proofs.Common.{refl, sym, ap, arith, inl, inr}
 use Rattle.std.proofs.lemmas.Bool.{cases_eq}
-use Rattle.aeth_ni.specs.Limits.{waiting_words}
-use Rattle.aeth_ni.specs.Queue.{QueueState}
+use Rattle.aeth_ni.specs.{Limits.waiting_words, Queue.QueueState}
 use Rattle.aeth_server.specs.PrivateServer.{arrived, credited, landed, returned, sent, taken}
 use Rattle.aeth_server.proofs.SessionEnds.{idle-before}
 use Rattle.aeth_refinement.specs.Accepted.{HasEntry, IsAccepted}
 use Rattle.aeth_refinement.specs.Carried.{words_from}
-use Rattle.aeth_refinement.specs.Switches.{HasEvent, Switched, finish_of}
-use Rattle.aeth_refinement.specs.Switches.{route_of}
+use Rattle.aeth_refinement.specs.Switches.{HasEvent, Switched, finish_of, route_of}
 use Rattle.aeth_refinement.specs.Components.{Net, queue_of}
 use Rattle.aeth_refinement.specs.Fabric.{Fabric, Owns, flow_at, has_slot, server_at}
 use Rattle.aeth_refinement.specs.Standing.{HasCounter, IsEntryOf, IsRunning, Stands}

@@ -1,9 +1,8 @@
 -- A router by tables sends on what a router by headers does, where it holds what a fabric carries.
-use Rattle.std.proofs.Common.{◌≡◌, ◌<◌, ◌∙◌, ℕ, zero, suc, ◌+◌, ◌%◌, map, true}
-use Rattle.std.proofs.Common.{Option, Some, None, refl, sym, ap, subst, arith}
+use Rattle.std.proofs.Common.{◌≡◌, ◌<◌, ◌∙◌, ℕ, zero, suc, ◌+◌, ◌%◌, map, true, Option, Some, None}
+use Rattle.std.proofs.Common.{refl, sym, ap, subst, arith, option_and_then, option_map}
 use Rattle.std.proofs.Math.Nat.{mod-add-mod}
 use Rattle.std.proofs.lemmas.Option.{same_Some}
-use Rattle.std.specs.Prelude.{option_and_then, option_map}
 use Rattle.aeth_base.proofs.Division.{mod-before}
 use Rattle.aeth_clocked.specs.declared.flit.Flit.{Flit}
 use Rattle.aeth_report.proofs.SessionMeetings.{mapped_at}

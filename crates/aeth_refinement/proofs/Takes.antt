@@ -1,13 +1,7 @@
 -- What some takes leave of a queue.
-use Rattle.std.proofs.Common.{◌≡◌, ◌≤◌, ◌∙◌, ℕ, zero, suc, ◌+◌, min, Bool}
-use Rattle.std.proofs.Common.{false}
-use Rattle.std.proofs.Common.{cond, List, [], ◌∷◌, length, drop}
-use Rattle.std.proofs.Common.{refl}
-use Rattle.std.proofs.Common.{sym, ap, subst, arith}
-use Rattle.std.proofs.lemmas.Bool.{ne_eqb}
-use Rattle.std.specs.Prelude.{◌==◌}
-use Rattle.aeth_ni.specs.Limits.{max_count}
-use Rattle.aeth_ni.specs.Queue.{QueueState, capped, word_taken}
+use Rattle.std.proofs.Common.{◌≡◌, ◌≤◌, ◌∙◌, ℕ, zero, suc, ◌+◌, min, Bool, false, cond, List, []}
+use Rattle.std.proofs.Common.{◌∷◌, length, drop, refl, sym, ap, subst, arith, ne_eqb, ◌==◌}
+use Rattle.aeth_ni.specs.{Limits.max_count, Queue.QueueState, Queue.capped, Queue.word_taken}
 use Rattle.aeth_refinement.specs.Components.{words_taken}
 
 -- What some takes leave and what they make owed.

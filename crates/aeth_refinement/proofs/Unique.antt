@@ -1,18 +1,15 @@
 -- A wire has one flit at most in a cycle.
 use Rattle.std.proofs.Common.{◌≡◌, ◌≤◌, ◌<◌, ◌∙◌, ℕ, suc, ◌+◌, ◌-◌, ◌%◌, ◌&&◌, Bool, true, false}
-use Rattle.std.proofs.Common.{List}
-use Rattle.std.proofs.Common.{ltb, length, sym, ap, arith, inl, inr}
+use Rattle.std.proofs.Common.{List, ltb, length, sym, ap, arith, inl, inr, eq-eqb, ltb-true, le-leb}
+use Rattle.std.proofs.Common.{lt-ltb, eqb-true, ◌==◌, IsTrue, nat_le, nat_lt, not}
 use Rattle.std.proofs.Math.Nat.{mod-add-mod}
-use Rattle.std.proofs.lemmas.Bool.{cases_Bool, cases_lt, and_parts, and_from}
-use Rattle.std.proofs.lemmas.Bool.{both_ways, eq-eqb, ltb-true, le-leb, lt-ltb}
-use Rattle.std.proofs.lemmas.Bool.{not_from_false, not_from_true, eqb-true}
+use Rattle.std.proofs.lemmas.Bool.{cases_Bool, cases_lt, and_parts, and_from, both_ways}
+use Rattle.std.proofs.lemmas.Bool.{not_from_false, not_from_true}
 use Rattle.std.proofs.lemmas.Option.{slice_get_within}
 use Rattle.std.specs.List.{list_any}
-use Rattle.std.specs.Prelude.{◌==◌, IsTrue, nat_le, nat_lt, not}
 use Rattle.aeth_report.specs.Carries.{injects, returns, sends}
-use Rattle.aeth_server.specs.PrivateServer.{PrivateServer, credited, sent}
-use Rattle.aeth_server.specs.Shape.{HasPaths}
-use Rattle.aeth_server.specs.SlotCycles.{is_slot}
+use Rattle.aeth_server.specs.{PrivateServer.PrivateServer, PrivateServer.credited}
+use Rattle.aeth_server.specs.{PrivateServer.sent, Shape.HasPaths, SlotCycles.is_slot}
 use Rattle.aeth_server.proofs.SessionEnds.{idle-before}
 use Rattle.aeth_refinement.specs.Accepted.{IsAccepted}
 use Rattle.aeth_refinement.specs.Carried.{IsOnWire}

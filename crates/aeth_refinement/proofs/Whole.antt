@@ -1,27 +1,20 @@
 -- Whole runs, by induction on the cycle.
-use Rattle.std.proofs.Common.{◌≡◌, ◌≤◌, ◌<◌, ◌∙◌, ℕ, zero, suc, ◌+◌, ◌-◌, ◌++◌, min, length}
-use Rattle.std.proofs.Common.{Option, refl}
-use Rattle.std.proofs.Common.{ap, subst, arith}
+use Rattle.std.proofs.Common.{◌≡◌, ◌≤◌, ◌<◌, ◌∙◌, ℕ, zero, suc, ◌+◌, ◌-◌, ◌++◌, min, length, Option}
+use Rattle.std.proofs.Common.{refl, ap, subst, arith}
 use Rattle.aeth_clocked.specs.declared.flit.Flit.{Flit}
 use Rattle.aeth_ni.specs.Component.{arrival_of}
 use Rattle.aeth_server.specs.PrivateServer.{landed, pull_at, returned, sent, taken}
 use Rattle.aeth_server.proofs.PrivateServerLemmas.{counts-none}
-use Rattle.aeth_refinement.specs.Accepted.{IsAccepted}
-use Rattle.aeth_refinement.specs.Carried.{Exact}
-use Rattle.aeth_refinement.specs.Switches.{Switched}
-use Rattle.aeth_refinement.specs.Cycle.{Cycle}
-use Rattle.aeth_refinement.specs.Components.{Net, after, driven, queue_of, words_for}
-use Rattle.aeth_refinement.specs.Fabric.{Fabric, Owns, flow_at, server_at}
-use Rattle.aeth_refinement.specs.Runs.{Begins, History}
-use Rattle.aeth_refinement.specs.Standing.{Stands}
-use Rattle.aeth_refinement.proofs.Counts.{returned-sent, room-next}
-use Rattle.aeth_refinement.proofs.Interfaces.{wires-exact}
-use Rattle.aeth_refinement.proofs.Owning.{exact-same, received-length}
-use Rattle.aeth_refinement.proofs.Ready.{enough, ready}
-use Rattle.aeth_refinement.proofs.Step.{received-whole, stands-next, taken-same}
-use Rattle.aeth_refinement.proofs.Switching.{switched}
-use Rattle.aeth_refinement.proofs.Unique.{known-back, paths-of}
-use Rattle.aeth_refinement.proofs.Words.{same_words}
+use Rattle.aeth_refinement.specs.{Accepted.IsAccepted, Carried.Exact, Switches.Switched}
+use Rattle.aeth_refinement.specs.{Cycle.Cycle, Components.Net, Components.after, Components.driven}
+use Rattle.aeth_refinement.specs.{Components.queue_of, Components.words_for, Fabric.Fabric}
+use Rattle.aeth_refinement.specs.{Fabric.Owns, Fabric.flow_at, Fabric.server_at, Runs.Begins}
+use Rattle.aeth_refinement.specs.{Runs.History, Standing.Stands}
+use Rattle.aeth_refinement.proofs.{Counts.returned-sent, Counts.room-next, Interfaces.wires-exact}
+use Rattle.aeth_refinement.proofs.{Owning.exact-same, Owning.received-length, Ready.enough}
+use Rattle.aeth_refinement.proofs.{Ready.ready, Step.received-whole, Step.stands-next}
+use Rattle.aeth_refinement.proofs.{Step.taken-same, Switching.switched, Unique.known-back}
+use Rattle.aeth_refinement.proofs.{Unique.paths-of, Words.same_words}
 
 module _ (fabric : Fabric) (ok : IsAccepted fabric) where
   -- What one cycle leads to: exact wires, components that stand, receive queues that keep all

@@ -9,8 +9,8 @@
 --   IsWired      the wires of a chip
 --   IsAccepted      all of these
 -- This project's own.
-use Rattle.std.specs.Prelude.{◌≡◌, ◌≤◌, ◌<◌, ℕ, suc, ◌+◌, ◌*◌, ◌/◌, ◌%◌, ◌^◌, true, length, Some}
-use Rattle.std.specs.Prelude.{slice_get, ◌⊎◌}
+use Rattle.std.proofs.Common.{◌≡◌, ◌≤◌, ◌<◌, ℕ, suc, ◌+◌, ◌*◌, ◌/◌, ◌%◌, ◌^◌, true, length, Some}
+use Rattle.std.proofs.Common.{slice_get, ◌⊎◌}
 use Rattle.aeth_header.specs.Layout.{port_bits}
 use Rattle.aeth_ni.specs.Limits.{max_count}
 use Rattle.aeth_report.specs.Carries.{IsSendable}

@@ -5,7 +5,7 @@
 --   Comes, Exact      the flit of some session, and the wires have all of them and nothing else
 --   IsPassed      a flit that a router holds goes on
 -- This project's own.
-use Rattle.std.specs.Prelude.{◌≡◌, ◌<◌, ℕ, ◌+◌, IsTrue, List, take, drop, Option, Some}
+use Rattle.std.proofs.Common.{◌≡◌, ◌<◌, ℕ, ◌+◌, IsTrue, List, take, drop, Option, Some}
 use Rattle.aeth_clocked.specs.declared.flit.Flit.{Flit}
 use Rattle.aeth_report.specs.Carries.{flit_at, injects}
 use Rattle.aeth_header.specs.Header.{port_of}

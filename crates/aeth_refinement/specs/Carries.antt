@@ -1,11 +1,10 @@
 -- What a wire carries in a cycle: the flits of all sessions that are on it then, as a list, so
 -- that two flits on one wire in one cycle would be seen. This project's own.
-use Rattle.std.specs.Prelude.{ℕ, ◌-◌, ◌==◌, ◌&&◌, nat_le, if◌then◌else◌, Bool, List, [], ◌∷◌}
+use Rattle.std.proofs.Common.{ℕ, ◌-◌, ◌==◌, ◌&&◌, nat_le, if◌then◌else◌, Bool, List, [], ◌∷◌}
 use Rattle.std.specs.List.{enumerate_from, flat_map, range_with_len}
 use Rattle.aeth_clocked.specs.declared.flit.Flit.{Flit}
 use Rattle.aeth_report.specs.Carries.{injects}
-use Rattle.aeth_refinement.specs.Fabric.{Fabric, flow_at}
-use Rattle.aeth_refinement.specs.Carried.{flit_of}
+use Rattle.aeth_refinement.specs.{Fabric.Fabric, Fabric.flow_at, Carried.flit_of}
 
 module _ (fabric : Fabric) (l t : ℕ) where
   -- Whether a flit of a session is on the wire in the cycle, at a place of its path.

@@ -7,13 +7,11 @@
 --   words_for, credits_for      what it brings to it
 --   words_taken      a queue after some takes
 -- This project's own.
-use Rattle.std.specs.Prelude.{ℕ, zero, suc, ◌%◌, ◌==◌, Bool, false, if◌then◌else◌, Option, Some}
-use Rattle.std.specs.Prelude.{None, map}
-use Rattle.std.specs.Prelude.{List, []}
+use Rattle.std.proofs.Common.{ℕ, zero, suc, ◌%◌, ◌==◌, Bool, false, if◌then◌else◌, Option, Some}
+use Rattle.std.proofs.Common.{None, map, List, []}
 use Rattle.aeth_clocked.specs.declared.flit.Flit.{Flit}
-use Rattle.aeth_ni.specs.Component.{Arrival, arrival_of}
-use Rattle.aeth_ni.specs.Queue.{QueueState, flit_landed, word_taken}
-use Rattle.aeth_ni.specs.Sending.{emitted, flit_sent}
+use Rattle.aeth_ni.specs.{Component.Arrival, Component.arrival_of, Queue.QueueState}
+use Rattle.aeth_ni.specs.{Queue.flit_landed, Queue.word_taken, Sending.emitted, Sending.flit_sent}
 use Rattle.aeth_router.specs.Ports.{flits_for, sole}
 use Rattle.aeth_refinement.specs.Fabric.{AtInterface, AtRouter, AtStage, Fabric, WireEnd}
 

@@ -6,7 +6,7 @@
 --   Latched      all components latch
 --   Cycle      a whole cycle
 -- This project's own.
-use Rattle.std.specs.Prelude.{◌≡◌, ◌<◌, ℕ, ◌+◌, ◌-◌, ◌++◌, min, Option, length}
+use Rattle.std.proofs.Common.{◌≡◌, ◌<◌, ℕ, ◌+◌, ◌-◌, ◌++◌, min, Option, length}
 use Rattle.aeth_clocked.specs.declared.flit.Flit.{Flit}
 use Rattle.aeth_ni.specs.Limits.{waiting_words}
 use Rattle.aeth_server.specs.PrivateServer.{arrived, pull_at}

@@ -15,7 +15,7 @@
 --
 -- Slot tables that are written while the network runs: after Æthereal (2005). This form of them:
 -- this project's own.
-use Rattle.std.specs.Prelude.{◌≡◌, ◌≤◌, ◌<◌, ℕ, Bool, List, Some, slice_get, ◌==◌}
+use Rattle.std.proofs.Common.{◌≡◌, ◌≤◌, ◌<◌, ℕ, Bool, List, Some, slice_get, ◌==◌}
 use Rattle.std.specs.List.{list_any}
 use Rattle.aeth_report.specs.Flows.{Flow}
 use Rattle.aeth_server.specs.PrivateServer.{PrivateServer}

@@ -1,11 +1,10 @@
 -- Whole runs of a network.
 -- This project's own.
-use Rattle.std.specs.Prelude.{◌≡◌, ◌≤◌, ◌<◌, ℕ, ◌+◌, false, [], Option, Some, None}
+use Rattle.std.proofs.Common.{◌≡◌, ◌≤◌, ◌<◌, ℕ, ◌+◌, false, [], Option, Some, None}
 use Rattle.aeth_clocked.specs.declared.flit.Flit.{Flit}
-use Rattle.aeth_refinement.specs.Fabric.{Fabric, flow_at, server_at}
-use Rattle.aeth_refinement.specs.Switches.{IsEntryAt, IsSetNow, route_of}
-use Rattle.aeth_refinement.specs.Cycle.{Cycle}
-use Rattle.aeth_refinement.specs.Components.{Net, queue_of}
+use Rattle.aeth_refinement.specs.{Fabric.Fabric, Fabric.flow_at, Fabric.server_at}
+use Rattle.aeth_refinement.specs.{Switches.IsEntryAt, Switches.IsSetNow, Switches.route_of}
+use Rattle.aeth_refinement.specs.{Cycle.Cycle, Components.Net, Components.queue_of}
 
 module _ (fabric : Fabric) where
   -- As the components stand once the tables of the first use case were written, before cycle 0.

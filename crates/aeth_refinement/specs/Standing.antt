@@ -1,13 +1,12 @@
 -- How the components stand, by the counts of the private servers.
 -- This project's own.
-use Rattle.std.specs.Prelude.{◌≡◌, ◌≤◌, ◌<◌, ℕ, suc, ◌+◌, ◌-◌, true, false, Some, None}
+use Rattle.std.proofs.Common.{◌≡◌, ◌≤◌, ◌<◌, ℕ, suc, ◌+◌, ◌-◌, true, false, Some, None}
 use Rattle.aeth_ni.specs.Limits.{waiting_words}
 use Rattle.aeth_server.specs.PrivateServer.{arrived, credited, landed, returned, sent, taken}
-use Rattle.aeth_refinement.specs.Fabric.{Fabric, Owns, flow_at, server_at}
-use Rattle.aeth_refinement.specs.Accepted.{HasEntry}
-use Rattle.aeth_refinement.specs.Carried.{Exact, words_from}
-use Rattle.aeth_refinement.specs.Switches.{IsEntryAt, route_of}
-use Rattle.aeth_refinement.specs.Components.{Net, queue_of}
+use Rattle.aeth_refinement.specs.{Fabric.Fabric, Fabric.Owns, Fabric.flow_at, Fabric.server_at}
+use Rattle.aeth_refinement.specs.{Accepted.HasEntry, Carried.Exact, Carried.words_from}
+use Rattle.aeth_refinement.specs.{Switches.IsEntryAt, Switches.route_of, Components.Net}
+use Rattle.aeth_refinement.specs.{Components.queue_of}
 
 module _ (fabric : Fabric) where
   -- The session whose entry names a queue.

@@ -6,7 +6,7 @@
 --   Switched      what changes in a cycle, and that all else stays
 -- Slot tables that are written while the network runs: after Æthereal (2005). This form of it: this
 -- project's own.
-use Rattle.std.specs.Prelude.{◌≡◌, ◌≤◌, ◌<◌, ◌⊎◌, ℕ, suc, true, false, Some, []}
+use Rattle.std.proofs.Common.{◌≡◌, ◌≤◌, ◌<◌, ◌⊎◌, ℕ, suc, true, false, Some, []}
 use Rattle.aeth_ni.specs.declared.queue.Route.{Route}
 use Rattle.aeth_report.specs.Flows.{Flow}
 use Rattle.aeth_refinement.specs.Fabric.{Fabric, IsSameQueue, flow_at, has_slot, server_at}

@@ -5,8 +5,8 @@
 --   GoesOnOnce      what a router holds from a wire goes on by one wire
 --   passed_on      what a table sends on
 -- Routers with slot tables: after Æthereal (2005). This form of them: this project's own.
-use Rattle.std.specs.Prelude.{◌≡◌, ◌<◌, ℕ, suc, ◌+◌, ◌%◌, true, Option, Some, option_map}
-use Rattle.std.specs.Prelude.{option_and_then}
+use Rattle.std.proofs.Common.{◌≡◌, ◌<◌, ℕ, suc, ◌+◌, ◌%◌, true, Option, Some, option_map}
+use Rattle.std.proofs.Common.{option_and_then}
 use Rattle.aeth_clocked.specs.declared.flit.Flit.{Flit}
 use Rattle.aeth_router.specs.Ports.{hopped}
 use Rattle.aeth_refinement.specs.Fabric.{AtRouter, Fabric, IsPlace, IsInTables, has_slot}

@@ -1,16 +1,13 @@
 -- Each word of a channel that is offered in a run is accepted by one of its sessions, or is outside
 -- of all.
-use Rattle.std.proofs.Common.{◌≡◌, ◌≤◌, ◌∙◌, ℕ, ◌+◌, ◌&&◌, Bool, cond, List, [], ◌∷◌}
-use Rattle.std.proofs.Common.{filter, map, refl, ap, inl, inr, arith}
-use Rattle.std.specs.Prelude.{nat_le, nat_lt, not}
+use Rattle.std.proofs.Common.{◌≡◌, ◌≤◌, ◌∙◌, ℕ, ◌+◌, ◌&&◌, Bool, cond, List, [], ◌∷◌, filter, map}
+use Rattle.std.proofs.Common.{refl, ap, inl, inr, arith, nat_le, nat_lt, not}
+use Rattle.std.proofs.lemmas.{Bool.cases_Bool, List.Sums.sum_by-cons}
 use Rattle.std.specs.List.{count_by, list_any, sum_by}
-use Rattle.std.proofs.lemmas.Bool.{cases_Bool}
-use Rattle.std.proofs.lemmas.List.Sums.{sum_by-cons}
 use Rattle.aeth_base.proofs.Lists.{count_by-any}
 use Rattle.aeth_server.specs.FinishTimes.{arrivals_before}
 use Rattle.aeth_trace.specs.declared.words.WordRow.{WordRow}
-use Rattle.aeth_report.specs.Flows.{Flow, is_within}
-use Rattle.aeth_report.specs.RunLog.{is_accepted, outside_of}
+use Rattle.aeth_report.specs.{Flows.Flow, Flows.is_within, RunLog.is_accepted, RunLog.outside_of}
 use Rattle.aeth_report.proofs.Sums.{count_by-none, sum_by-none, sum_by-plus}
 
 -- Whether a word is offered before a cycle.

@@ -1,32 +1,23 @@
 -- Runs that give the same to a channel have the same log of it.
 use Rattle.std.proofs.Common.{◌≡◌, ◌∙◌, ℕ, ◌*◌, ◌&&◌, List, [], ◌∷◌, Contains, filter, map, refl}
-use Rattle.std.proofs.Common.{sym, ap}
-use Rattle.std.specs.Prelude.{nat_lt, not}
-use Rattle.std.specs.List.{count_by, list_any}
+use Rattle.std.proofs.Common.{sym, ap, nat_lt, not}
 use Rattle.std.proofs.lemmas.Simd.{map-map}
-use Rattle.aeth_base.proofs.Filters.{filter-map}
-use Rattle.aeth_base.proofs.Lists.{list_any-map}
+use Rattle.std.specs.List.{count_by, list_any}
+use Rattle.aeth_base.proofs.{Filters.filter-map, Lists.list_any-map, Members.Contains-here}
+use Rattle.aeth_base.proofs.{Members.Contains-there, Members.filter-Contains}
 use Rattle.aeth_base.specs.Limits.{words_per_flit}
 use Rattle.aeth_base.specs.declared.ids.Channel.{Channel}
-use Rattle.aeth_base.specs.declared.ids.Side.{Side}
-use Rattle.aeth_base.specs.declared.ids.Side.TheVariants.{Fwd, Back}
-use Rattle.aeth_base.proofs.Members.{Contains-here, Contains-there, filter-Contains}
-use Rattle.aeth_app.specs.App.{wish_of}
-use Rattle.aeth_app.specs.Rates.{need_of}
-use Rattle.aeth_app.specs.declared.connection.Connection.{Connection}
+use Rattle.aeth_base.specs.declared.ids.Side.{Side, TheVariants.Fwd, TheVariants.Back}
+use Rattle.aeth_app.specs.{App.wish_of, Rates.need_of, declared.connection.Connection.Connection}
 use Rattle.aeth_server.specs.Shape.{buffer_of}
-use Rattle.aeth_trace.specs.Channels.{rows_until}
-use Rattle.aeth_trace.specs.Receivers.{pull_of}
-use Rattle.aeth_trace.specs.Words.{words_on}
-use Rattle.aeth_trace.specs.declared.receivers.PullRow.{PullRow}
-use Rattle.aeth_trace.specs.declared.words.WordRow.{WordRow}
-use Rattle.aeth_report.specs.declared.session.Session.{Session}
-use Rattle.aeth_report.specs.Alike.{IsGivenAlike}
-use Rattle.aeth_report.specs.Design.{connection_at, shape_at}
-use Rattle.aeth_report.specs.Flows.{Flow, Run, close_at, flow_of, is_within, server_of, sessions_in}
-use Rattle.aeth_report.specs.Flows.{values_of}
-use Rattle.aeth_report.specs.Log.{SessionData}
-use Rattle.aeth_report.specs.RunLog.{channel_log, flow_log, is_accepted, session_log}
+use Rattle.aeth_trace.specs.{Channels.rows_until, Receivers.pull_of, Words.words_on}
+use Rattle.aeth_trace.specs.{declared.receivers.PullRow.PullRow, declared.words.WordRow.WordRow}
+use Rattle.aeth_report.specs.{declared.session.Session.Session, Alike.IsGivenAlike}
+use Rattle.aeth_report.specs.{Design.connection_at, Design.shape_at, Flows.Flow, Flows.Run}
+use Rattle.aeth_report.specs.{Flows.close_at, Flows.flow_of, Flows.is_within, Flows.server_of}
+use Rattle.aeth_report.specs.{Flows.sessions_in, Flows.values_of, Log.SessionData}
+use Rattle.aeth_report.specs.{RunLog.channel_log, RunLog.flow_log, RunLog.is_accepted}
+use Rattle.aeth_report.specs.{RunLog.session_log}
 
 -- What a connection needs depends on its wishes alone.
 need-alike : (slots : ℕ) (one other : Connection) (side : Side) → one.fwd ≡ other.fwd

@@ -1,18 +1,17 @@
 -- What a link carries, where nothing is carried and where one flit alone is.
-use Rattle.std.proofs.Common.{◌≡◌, ◌≤◌, ◌∙◌, ℕ, ◌-◌, ◌&&◌, Bool, true, cond, List, [], ◌∷◌}
-use Rattle.std.proofs.Common.{Some, length, slice_get, refl, sym, ap, subst, inl, inr, arith}
-use Rattle.std.proofs.lemmas.Bool.{cases_Bool, and_parts, and_from, eqb-true, eq-eqb, leb-true}
-use Rattle.std.proofs.lemmas.Bool.{le-leb}
-use Rattle.std.specs.Prelude.{◌==◌, nat_le, IsTrue}
+use Rattle.std.proofs.Common.{◌≡◌, ◌≤◌, ◌∙◌, ℕ, ◌-◌, ◌&&◌, Bool, true, cond, List, [], ◌∷◌, Some}
+use Rattle.std.proofs.Common.{length, slice_get, refl, sym, ap, subst, inl, inr, arith, eqb-true}
+use Rattle.std.proofs.Common.{eq-eqb, leb-true, le-leb, ◌==◌, nat_le, IsTrue}
+use Rattle.std.proofs.lemmas.Bool.{cases_Bool, and_parts, and_from}
 use Rattle.std.specs.List.{enumerate_from}
 use Rattle.aeth_base.specs.declared.ids.LinkId.{LinkId}
 use Rattle.aeth_chip.specs.Paths.{offset}
 use Rattle.aeth_report.specs.Flows.{Flow, Run, flows_of}
 use Rattle.aeth_report.specs.Carries.{IsCarried, carries, flit_at, flits_at, flits_on, injects}
 use Rattle.aeth_report.specs.Carries.{is_there}
+use Rattle.aeth_report.proofs.Places.{enumerate_from-place, flat_map-none, flat_map-place}
+use Rattle.aeth_report.proofs.Places.{flat_map-sole, place-enumerate_from}
 use Rattle.aeth_clocked.specs.declared.flit.Flit.{Flit}
-use Rattle.aeth_report.proofs.Places.{enumerate_from-place, flat_map-none, flat_map-place, flat_map-sole}
-use Rattle.aeth_report.proofs.Places.{place-enumerate_from}
 
 module _ (run : Run) (l t : ℕ) where
   -- The places of a flow's path, and how long a flit takes to each.

@@ -1,19 +1,16 @@
 -- The channels of an application's connections, and of a log that is regular for it.
-use Rattle.std.proofs.Common.{◌≡◌, ◌<◌, ℕ, List, [], ◌∷◌, Contains, map, sym, ap, inl}
-use Rattle.std.proofs.Common.{inr, arith, true, refl}
-use Rattle.std.specs.Prelude.{◌==◌}
-use Rattle.std.proofs.lemmas.Bool.{and_from, and_parts, eq-eqb, eqb-true}
-use Rattle.std.specs.List.{All, range_with_len}
+use Rattle.std.proofs.Common.{◌≡◌, ◌<◌, ℕ, List, [], ◌∷◌, Contains, map, sym, ap, inl, inr, arith}
+use Rattle.std.proofs.Common.{true, refl, ◌==◌, eq-eqb, eqb-true}
+use Rattle.std.proofs.lemmas.Bool.{and_from, and_parts}
 use Rattle.std.proofs.lemmas.List.Elements.{All-contains, All-contains_itself}
-use Rattle.aeth_base.specs.declared.ids.Channel.{Channel}
-use Rattle.aeth_base.specs.declared.ids.Side.TheVariants.{Back, Fwd}
-use Rattle.aeth_base.specs.Sides.{same_side}
+use Rattle.std.specs.List.{All, range_with_len}
+use Rattle.aeth_base.specs.{declared.ids.Channel.Channel, declared.ids.Side.TheVariants.Back}
+use Rattle.aeth_base.specs.{declared.ids.Side.TheVariants.Fwd, Sides.same_side}
 use Rattle.aeth_base.proofs.SideLemmas.{same_side-is, same_side-itself}
-use Rattle.aeth_trace.specs.Channels.{is_channel}
 use Rattle.aeth_base.proofs.Members.{Contains-cases, Contains-map, Contains-nil, flat_map-Contains}
 use Rattle.aeth_base.proofs.Ranges.{All-range}
-use Rattle.aeth_report.specs.Channels.{channels_of, channels_with}
-use Rattle.aeth_report.specs.Log.{ChannelData}
+use Rattle.aeth_trace.specs.Channels.{is_channel}
+use Rattle.aeth_report.specs.{Channels.channels_of, Channels.channels_with, Log.ChannelData}
 
 -- The channels of a connection are of it.
 pub of_connection : (c : ℕ) (channel : Channel) → Contains (channels_with c) channel

@@ -1,18 +1,14 @@
 -- Each session stops early enough: what it has sent has landed when it finishes.
-use Rattle.std.proofs.Common.{◌≡◌, ◌≤◌, ◌∙◌, ℕ, ◌+◌, Contains, Option, None, Some, ap, subst}
-use Rattle.std.proofs.Common.{arith}
-use Rattle.std.specs.Prelude.{IfSome, option_map, unwrap_or}
-use Rattle.aeth_base.specs.Limits.{max_path_delay}
-use Rattle.aeth_base.specs.declared.ids.Channel.{Channel}
+use Rattle.std.proofs.Common.{◌≡◌, ◌≤◌, ◌∙◌, ℕ, ◌+◌, Contains, Option, None, Some, ap, subst, arith}
+use Rattle.std.proofs.Common.{IfSome, option_map, unwrap_or}
+use Rattle.aeth_base.specs.{Limits.max_path_delay, declared.ids.Channel.Channel}
 use Rattle.aeth_base.proofs.Members.{map-Contains}
 use Rattle.aeth_chip.specs.Paths.{path_delay}
 use Rattle.aeth_group.specs.Members.{group_at}
-use Rattle.aeth_report.specs.declared.session.Close.{Close}
-use Rattle.aeth_report.specs.declared.session.Session.{Session}
-use Rattle.aeth_report.specs.Design.{grant_at}
-use Rattle.aeth_report.specs.Flows.{Run, server_of, sessions_in}
-use Rattle.aeth_report.specs.Sessions.{Stay, Switch, close_by, session_of, stays_of}
-use Rattle.aeth_report.specs.Sound.{HasDelay, IsSound}
+use Rattle.aeth_report.specs.{declared.session.Close.Close, declared.session.Session.Session}
+use Rattle.aeth_report.specs.{Design.grant_at, Flows.Run, Flows.server_of, Flows.sessions_in}
+use Rattle.aeth_report.specs.{Sessions.Stay, Sessions.Switch, Sessions.close_by}
+use Rattle.aeth_report.specs.{Sessions.session_of, Sessions.stays_of, Sound.HasDelay, Sound.IsSound}
 use Rattle.aeth_report.proofs.Stays.{IsClosedBy, IsStayOf, stays_of-is}
 
 module _ (run : Run) (sound : IsSound run) (channel : Channel) where

@@ -1,7 +1,7 @@
 -- The counts of a session at its finish are those at the end of the run.
 use Rattle.std.proofs.Common.{◌≡◌, ◌≤◌, ◌<◌, ◌∙◌, ◌↔◌, ℕ, ◌+◌, ◌-◌, sym, ap, inl, inr, arith}
-use Rattle.std.specs.Prelude.{IsTrue, nat_lt}
-use Rattle.std.proofs.lemmas.Bool.{cases_lt, lt-ltb, ltb-true}
+use Rattle.std.proofs.Common.{IsTrue, nat_lt, lt-ltb, ltb-true}
+use Rattle.std.proofs.lemmas.Bool.{cases_lt}
 use Rattle.aeth_server.specs.PrivateServer.{PrivateServer, landed, taken}
 use Rattle.aeth_server.specs.Shape.{HasPaths}
 use Rattle.aeth_server.proofs.SessionEnds.{is-closed}

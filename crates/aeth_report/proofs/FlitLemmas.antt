@@ -1,9 +1,7 @@
 -- The flit of a flow moves on by one hop at each place of its path.
-use Rattle.std.proofs.Common.{◌≡◌, ◌∙◌, ℕ, ◌+◌, ◌*◌, ◌/◌, ◌^◌, sym, ap, arith}
+use Rattle.std.proofs.Common.{◌≡◌, ◌∙◌, ℕ, ◌+◌, ◌*◌, ◌/◌, ◌^◌, sym, ap, arith, pow-add}
 use Rattle.std.proofs.Math.Nat.{div-div-eq-div-mul, div-le_self}
-use Rattle.std.proofs.lemmas.Nat.{pow-add}
-use Rattle.aeth_header.specs.Header.{IsPackable, next_word, word_of}
-use Rattle.aeth_header.specs.Layout.{port_bits}
+use Rattle.aeth_header.specs.{Header.IsPackable, Header.next_word, Header.word_of, Layout.port_bits}
 use Rattle.aeth_header.proofs.HeaderLemmas.{next_word-word_of}
 use Rattle.aeth_server.proofs.PrivateServerLemmas.{fits-flit}
 use Rattle.aeth_report.specs.Carries.{IsSendable, flit_at, header_at, returns, sends}

@@ -1,6 +1,5 @@
 -- Flows by their numbers: flow number n is a session of a channel, and no other.
-use Rattle.std.proofs.Common.{◌≡◌, ℕ, zero, suc, ◌+◌, length, take, Some, slice_get}
-use Rattle.std.proofs.Common.{sym, ap, arith}
+use Rattle.std.proofs.Common.{◌≡◌, ℕ, zero, suc, ◌+◌, length, take, Some, slice_get, sym, ap, arith}
 use Rattle.std.proofs.lemmas.Option.{same_Some}
 use Rattle.std.specs.List.{flat_map, range_with_len}
 use Rattle.aeth_base.specs.declared.ids.Channel.{Channel}
@@ -9,8 +8,7 @@ use Rattle.aeth_trace.specs.Channels.{side_number}
 use Rattle.aeth_report.specs.declared.session.Session.{Session}
 use Rattle.aeth_report.specs.Channels.{channels_of, channels_with}
 use Rattle.aeth_report.specs.Flows.{Flow, Run, flow_of, flows_of, flows_on, sessions_in}
-use Rattle.aeth_report.proofs.Places.{flat_map-place, range-place}
-use Rattle.aeth_report.proofs.SessionMeetings.{mapped_at}
+use Rattle.aeth_report.proofs.{Places.flat_map-place, Places.range-place, SessionMeetings.mapped_at}
 
 -- A channel of a connection stands at its place.
 channels_with-place : (c i : ℕ) (channel : Channel) → slice_get (channels_with c) i ≡ Some channel

@@ -1,22 +1,17 @@
 -- Two channels that are together in a group enter no link in one slot.
 use Rattle.std.proofs.Common.{◌≡◌, ◌∙◌, ℕ, ◌+◌, ◌%◌, ◌&&◌, Bool, true, List, [], ◌∷◌, Contains}
-use Rattle.std.proofs.Common.{Option, Some, None, slice_get, refl, sym, ap, inl, inr}
-use Rattle.std.proofs.lemmas.Bool.{cases_Bool, and_from, and_parts, eqb-true, eq-eqb}
-use Rattle.std.specs.Prelude.{◌==◌, IfSome, find, unwrap_or}
-use Rattle.aeth_base.specs.declared.ids.Channel.{Channel}
-use Rattle.aeth_base.specs.declared.ids.LinkId.{LinkId}
-use Rattle.aeth_base.proofs.Members.{Contains-here, Contains-there}
-use Rattle.aeth_chip.specs.Paths.{offset}
-use Rattle.aeth_group.specs.Members.{group_at, has_at}
-use Rattle.aeth_group.specs.Occupation.{Occupies, holds_in, occupies}
-use Rattle.aeth_group.specs.declared.grant.Grant.{Grant}
-use Rattle.aeth_group.proofs.ConflictLemmas.{conflict_from_held}
-use Rattle.aeth_group.proofs.OccupationLemmas.{occupies-Decides}
-use Rattle.aeth_report.specs.Design.{Design, grant_at, is_for, no_grant}
-use Rattle.aeth_report.specs.Sessions.{AreTogether}
-use Rattle.aeth_report.specs.Sound.{AreGranted}
+use Rattle.std.proofs.Common.{Option, Some, None, slice_get, refl, sym, ap, inl, inr, eqb-true}
+use Rattle.std.proofs.Common.{eq-eqb, ◌==◌, IfSome, find, unwrap_or}
+use Rattle.std.proofs.lemmas.Bool.{cases_Bool, and_from, and_parts}
+use Rattle.aeth_base.specs.declared.ids.{Channel.Channel, LinkId.LinkId}
 use Rattle.aeth_base.specs.Sides.{same_side}
-use Rattle.aeth_base.proofs.SideLemmas.{same_side-is}
+use Rattle.aeth_base.proofs.{Members.Contains-here, Members.Contains-there, SideLemmas.same_side-is}
+use Rattle.aeth_chip.specs.Paths.{offset}
+use Rattle.aeth_group.specs.{Members.group_at, Members.has_at, Occupation.Occupies}
+use Rattle.aeth_group.specs.{Occupation.holds_in, Occupation.occupies, declared.grant.Grant.Grant}
+use Rattle.aeth_group.proofs.{ConflictLemmas.conflict_from_held, OccupationLemmas.occupies-Decides}
+use Rattle.aeth_report.specs.{Design.Design, Design.grant_at, Design.is_for, Design.no_grant}
+use Rattle.aeth_report.specs.{Sessions.AreTogether, Sound.AreGranted}
 
 -- What a search finds in a list is in it, and passes the test.
 find-passes : {X : Type 0} (test : X → Bool) (xs : List X)

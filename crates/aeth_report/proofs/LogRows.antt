@@ -1,26 +1,21 @@
 -- The rows of a session's log: its landings, by their due cycles.
-use Rattle.std.proofs.Common.{◌≡◌, ◌≤◌, ◌<◌, ◌∙◌, ℕ, ◌+◌, ◌-◌, ◌*◌, List, Some}
-use Rattle.std.proofs.Common.{slice_get, refl, sym, ap, subst, inl, inr, arith}
+use Rattle.std.proofs.Common.{◌≡◌, ◌≤◌, ◌<◌, ◌∙◌, ℕ, ◌+◌, ◌-◌, ◌*◌, List, Some, slice_get, refl}
+use Rattle.std.proofs.Common.{sym, ap, subst, inl, inr, arith, option_map, slice_index}
 use Rattle.std.proofs.lemmas.Bool.{cases_lt}
-use Rattle.std.proofs.lemmas.Option.{slice_get-map, slice_get_within}
-use Rattle.std.specs.Prelude.{option_map, slice_index}
-use Rattle.std.specs.List.{range_with_len}
-use Rattle.std.specs.List.Sorted.{IsNonDecreasing}
+use Rattle.std.proofs.lemmas.Option.{slice_get-map, slice_get_within, slice_get-get_or}
 use Rattle.std.proofs.lemmas.List.FromFn.{length-range_with_len, get_or-range_with_len}
-use Rattle.std.proofs.lemmas.Option.{slice_get-get_or}
+use Rattle.std.specs.List.{range_with_len, Sorted.IsNonDecreasing}
 use Rattle.aeth_server.specs.Landing.{IsDue, LandsAt, LandsBy, WaitsAlone, due_time}
 use Rattle.aeth_server.specs.PrivateServer.{PrivateServer, accepted, landed}
 use Rattle.aeth_server.specs.Shape.{HasPaths, IsGranted, buffer_of}
-use Rattle.aeth_server.proofs.CreditLoop.{landed-due, lands-by}
-use Rattle.aeth_server.proofs.LandingLemmas.{due-in-time, landing_cycle-lands}
-use Rattle.aeth_server.proofs.SingleWord.{lands-alone}
+use Rattle.aeth_server.proofs.{CreditLoop.landed-due, CreditLoop.lands-by}
+use Rattle.aeth_server.proofs.{LandingLemmas.due-in-time, LandingLemmas.landing_cycle-lands}
+use Rattle.aeth_server.proofs.{SingleWord.lands-alone, PrivateServerLemmas.has-grown}
 use Rattle.aeth_slots.specs.SlotSet.{Ascends}
-use Rattle.aeth_server.proofs.PrivateServerLemmas.{has-grown}
 use Rattle.aeth_report.specs.declared.log.Landing.{Landing}
 use Rattle.aeth_report.specs.Bounds.{IsLoggedBy, IsLoggedInTime}
 use Rattle.aeth_report.specs.RunLog.{counted_to, due_of, landing_of, session_log}
-use Rattle.aeth_report.proofs.Places.{range-place}
-use Rattle.aeth_report.proofs.SessionMeetings.{mapped_at}
+use Rattle.aeth_report.proofs.{Places.range-place, SessionMeetings.mapped_at}
 
 module _ (server : PrivateServer) (paths : HasPaths server.shape) (cycles : ℕ) (values : List ℕ) where
   abbrev counted : ℕ

@@ -1,30 +1,25 @@
 -- A link is reserved in a cycle for one session at most, so there is one flit on it at most.
-use Rattle.std.proofs.Common.{◌≡◌, ◌≤◌, ◌<◌, ◌∙◌, ℕ, suc, ◌+◌, ◌-◌, ◌%◌, ◌&&◌, Bool, true, false, cond}
-use Rattle.std.proofs.Common.{Contains, Option, Some, None, slice_get, refl, sym, ap, subst, inl, inr}
-use Rattle.std.proofs.Common.{arith}
+use Rattle.std.proofs.Common.{◌≡◌, ◌≤◌, ◌<◌, ◌∙◌, ℕ, suc, ◌+◌, ◌-◌, ◌%◌, ◌&&◌, Bool, true, false}
+use Rattle.std.proofs.Common.{cond, Contains, Option, Some, None, slice_get, refl, sym, ap, subst}
+use Rattle.std.proofs.Common.{inl, inr, arith, eq-eqb, leb-true, ltb-true, IfSome, IsTrue, not}
+use Rattle.std.proofs.Common.{nat_le, nat_lt, ◌==◌, unwrap_or}
 use Rattle.std.proofs.Math.Nat.{mod-add-mod}
-use Rattle.std.proofs.lemmas.Bool.{cases_Bool, and_from, and_parts, and_right, both_ways, eq-eqb}
-use Rattle.std.proofs.lemmas.Bool.{leb-true, ltb-true, not_from_true}
-use Rattle.std.proofs.lemmas.List.Sums.{sum_by-take-le}
-use Rattle.std.specs.Prelude.{IfSome, IsTrue, not, nat_le, nat_lt, ◌==◌, unwrap_or}
+use Rattle.std.proofs.lemmas.{Bool.cases_Bool, Bool.and_from, Bool.and_parts, Bool.and_right}
+use Rattle.std.proofs.lemmas.{Bool.both_ways, Bool.not_from_true, List.Sums.sum_by-take-le}
 use Rattle.aeth_base.specs.Limits.{max_path_delay}
 use Rattle.aeth_base.specs.declared.ids.Channel.{Channel}
-use Rattle.aeth_base.specs.declared.ids.Side.{Side}
-use Rattle.aeth_base.specs.declared.ids.Side.TheVariants.{Fwd, Back}
+use Rattle.aeth_base.specs.declared.ids.Side.{Side, TheVariants.Fwd, TheVariants.Back}
 use Rattle.aeth_chip.specs.Paths.{delay_of, offset, path_delay}
-use Rattle.aeth_server.specs.PrivateServer.{PrivateServer, credited, sent}
-use Rattle.aeth_server.specs.Shape.{HasPaths}
-use Rattle.aeth_server.specs.SlotCycles.{is_slot}
-use Rattle.aeth_server.proofs.PrivateServerLemmas.{credited-next, credits_ready, sent-next, words_ready}
+use Rattle.aeth_server.specs.{PrivateServer.PrivateServer, PrivateServer.credited}
+use Rattle.aeth_server.specs.{PrivateServer.sent, Shape.HasPaths, SlotCycles.is_slot}
+use Rattle.aeth_server.proofs.PrivateServerLemmas.{credited-next, credits_ready, sent-next}
+use Rattle.aeth_server.proofs.PrivateServerLemmas.{words_ready}
 use Rattle.aeth_server.proofs.SlotCycleLemmas.{member-is_slot}
-use Rattle.aeth_report.specs.declared.session.Close.{Close}
-use Rattle.aeth_report.specs.declared.session.Session.{Session}
-use Rattle.aeth_report.specs.Channels.{opposite, other_side}
-use Rattle.aeth_report.specs.Design.{grant_at}
-use Rattle.aeth_report.specs.Flows.{Flow, Run, flow_of, server_of, sessions_in}
-use Rattle.aeth_report.specs.Carries.{IsCarried, injects, returns, sends}
-use Rattle.aeth_report.specs.Sessions.{IsInUse}
-use Rattle.aeth_report.specs.Sound.{IsSound}
+use Rattle.aeth_report.specs.{declared.session.Close.Close, declared.session.Session.Session}
+use Rattle.aeth_report.specs.{Channels.opposite, Channels.other_side, Design.grant_at, Flows.Flow}
+use Rattle.aeth_report.specs.{Flows.Run, Flows.flow_of, Flows.server_of, Flows.sessions_in}
+use Rattle.aeth_report.specs.{Carries.IsCarried, Carries.injects, Carries.returns, Carries.sends}
+use Rattle.aeth_report.specs.{Sessions.IsInUse, Sound.IsSound}
 use Rattle.aeth_report.proofs.ClosingLemmas.{lands_by_finish, session-delay}
 use Rattle.aeth_report.proofs.FlowPlaces.{IsFlowOf, flows_of-place, same_flow}
 use Rattle.aeth_report.proofs.GrantLemmas.{EntersIn, entered_once}

@@ -1,9 +1,8 @@
 -- Places of lists: of what the items of a list give one after the other, and of numbered lists.
-use Rattle.std.proofs.Common.{◌≡◌, ◌≢◌, ◌⊎◌, ◌∙◌, ℕ, zero, suc, ◌+◌, List, [], ◌∷◌, ◌++◌, length, take}
-use Rattle.std.proofs.Common.{Some, slice_get, refl, sym, ap, inl, inr, arith}
-use Rattle.std.proofs.lemmas.List.{append-nil, length-append}
-use Rattle.std.proofs.lemmas.List.Concat.{flat_map-cons}
-use Rattle.std.proofs.lemmas.Option.{same_Some}
+use Rattle.std.proofs.Common.{◌≡◌, ◌≢◌, ◌⊎◌, ◌∙◌, ℕ, zero, suc, ◌+◌, List, [], ◌∷◌, ◌++◌, length}
+use Rattle.std.proofs.Common.{take, Some, slice_get, refl, sym, ap, inl, inr, arith, append-nil}
+use Rattle.std.proofs.Common.{length-append}
+use Rattle.std.proofs.lemmas.{List.Concat.flat_map-cons, Option.same_Some}
 use Rattle.std.specs.List.{enumerate_from, flat_map, range_with_len}
 
 -- An item of one list behind another is in the one or in the other.

@@ -1,27 +1,21 @@
 -- The log of a run is regular.
-use Rattle.std.proofs.Common.{◌≡◌, ◌≤◌, ◌<◌, ◌∙◌, ℕ, ◌+◌, ◌&&◌, true, false, List, []}
-use Rattle.std.proofs.Common.{◌∷◌, Option, Some, None, filter, slice_get, refl}
-use Rattle.std.proofs.Common.{sym, ap, subst, inl, inr, arith}
-use Rattle.std.specs.Prelude.{nat_le, nat_lt, IfSome, option_map}
+use Rattle.std.proofs.Common.{◌≡◌, ◌≤◌, ◌<◌, ◌∙◌, ℕ, ◌+◌, ◌&&◌, true, false, List, [], ◌∷◌, Option}
+use Rattle.std.proofs.Common.{Some, None, filter, slice_get, refl, sym, ap, subst, inl, inr, arith}
+use Rattle.std.proofs.Common.{nat_le, nat_lt, IfSome, option_map, leb-true, le-ltb, lt-ltb}
+use Rattle.std.proofs.Common.{ltb-true}
+use Rattle.std.proofs.lemmas.Bool.{and_parts, cases_Bool, cases_lt, lt-leb}
 use Rattle.std.specs.List.{count_by, sum_by}
-use Rattle.std.proofs.lemmas.Bool.{and_parts, cases_Bool, cases_lt, leb-true, le-ltb}
-use Rattle.std.proofs.lemmas.Bool.{lt-leb, lt-ltb, ltb-true}
-use Rattle.aeth_base.specs.declared.ids.Channel.{Channel}
-use Rattle.aeth_base.proofs.Lists.{sum_by-map}
-use Rattle.aeth_server.specs.FinishTimes.{arrivals_before}
-use Rattle.aeth_server.specs.PrivateServer.{arrived}
-use Rattle.aeth_trace.specs.Spans.{SpanData}
-use Rattle.aeth_trace.specs.Words.{words_on}
-use Rattle.aeth_trace.specs.declared.words.WordRow.{WordRow}
-use Rattle.aeth_report.specs.declared.session.Session.{Session}
-use Rattle.aeth_report.specs.Flows.{Flow, Run, close_at, flow_of, flows_on, is_within}
-use Rattle.aeth_report.specs.Flows.{sessions_in}
-use Rattle.aeth_report.specs.Log.{SessionData}
-use Rattle.aeth_report.specs.Regular.{offered_in}
-use Rattle.aeth_report.specs.RunLog.{channel_log, flow_log, is_accepted}
-use Rattle.aeth_report.specs.Sessions.{IsInUse, Stay, Switch, close_by, session_of, stays_of}
-use Rattle.aeth_report.specs.Sound.{IsSound}
-use Rattle.aeth_report.proofs.Accounts.{accepts, accounted, arrivals-accepts, flow_accepts, is_before}
+use Rattle.aeth_base.{specs.declared.ids.Channel.Channel, proofs.Lists.sum_by-map}
+use Rattle.aeth_server.specs.{FinishTimes.arrivals_before, PrivateServer.arrived}
+use Rattle.aeth_trace.specs.{Spans.SpanData, Words.words_on, declared.words.WordRow.WordRow}
+use Rattle.aeth_report.specs.{declared.session.Session.Session, Flows.Flow, Flows.Run}
+use Rattle.aeth_report.specs.{Flows.close_at, Flows.flow_of, Flows.flows_on, Flows.is_within}
+use Rattle.aeth_report.specs.{Flows.sessions_in, Log.SessionData, Regular.offered_in}
+use Rattle.aeth_report.specs.{RunLog.channel_log, RunLog.flow_log, RunLog.is_accepted}
+use Rattle.aeth_report.specs.{Sessions.IsInUse, Sessions.Stay, Sessions.Switch, Sessions.close_by}
+use Rattle.aeth_report.specs.{Sessions.session_of, Sessions.stays_of, Sound.IsSound}
+use Rattle.aeth_report.proofs.Accounts.{accepts, accounted, arrivals-accepts, flow_accepts}
+use Rattle.aeth_report.proofs.Accounts.{is_before}
 use Rattle.aeth_report.proofs.SessionMeetings.{mapped_at, sessions_alone}
 use Rattle.aeth_report.proofs.Sums.{count_by-sole, sum_by-filter}
 

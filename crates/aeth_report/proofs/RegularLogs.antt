@@ -2,11 +2,9 @@
 use Rattle.std.proofs.Common.{◌≡◌, ◌∙◌, List, [], ◌∷◌, map, refl, ap, arith}
 use Rattle.std.proofs.Math.Nat.{mul-le-mul}
 use Rattle.aeth_base.specs.declared.ids.Channel.{Channel}
-use Rattle.aeth_report.specs.Channels.{channels_of}
-use Rattle.aeth_report.specs.Flows.{Run}
-use Rattle.aeth_report.specs.Regular.{IsRegular}
-use Rattle.aeth_report.specs.RunLog.{channel_log, log_of}
-use Rattle.aeth_report.specs.Sound.{IsSound, IsWithinLimits}
+use Rattle.aeth_report.specs.{Channels.channels_of, Flows.Run, Regular.IsRegular}
+use Rattle.aeth_report.specs.{RunLog.channel_log, RunLog.log_of, Sound.IsSound}
+use Rattle.aeth_report.specs.{Sound.IsWithinLimits}
 use Rattle.aeth_report.proofs.Totals.{log-flits, log-landings, log-ordered, log-words}
 
 -- The logs of channels are of these channels.

@@ -1,32 +1,23 @@
 -- The rows of the log of a run's session: of a channel's words that are in order, and within the
 -- session's cycles.
-use Rattle.std.proofs.Common.{◌≡◌, ◌≤◌, ◌<◌, ◌∙◌, ◌&&◌, ℕ, ◌+◌, ◌-◌, List, Contains, Some, length, map, slice_get}
-use Rattle.std.proofs.Common.{ap, arith}
-use Rattle.std.specs.List.Sorted.{IsNonDecreasing, IsNonDecreasingBy}
-use Rattle.std.proofs.lemmas.List.{get_or-map, length-map}
-use Rattle.std.proofs.lemmas.List.Kept.{IsNonDecreasingBy-filter}
-use Rattle.std.proofs.lemmas.List.Sums.{count_by-le-length, length-filter}
-use Rattle.aeth_base.specs.declared.ids.Channel.{Channel}
-use Rattle.aeth_base.proofs.Filters.{filter-map}
+use Rattle.std.proofs.Common.{◌≡◌, ◌≤◌, ◌<◌, ◌∙◌, ◌&&◌, ℕ, ◌+◌, ◌-◌, List, Contains, Some, length}
+use Rattle.std.proofs.Common.{map, slice_get, ap, arith, nat_le, nat_lt, slice_index}
+use Rattle.std.proofs.Common.{slice_index_or}
+use Rattle.std.proofs.lemmas.List.{get_or-map, length-map, Kept.IsNonDecreasingBy-filter}
+use Rattle.std.proofs.lemmas.List.{Sums.count_by-le-length, Sums.length-filter}
 use Rattle.std.proofs.lemmas.Option.{slice_get-get_or}
-use Rattle.std.specs.Prelude.{nat_le, nat_lt, slice_index, slice_index_or}
-use Rattle.aeth_server.specs.Landing.{IsDue, WaitsAlone}
-use Rattle.aeth_server.specs.PrivateServer.{accepted}
-use Rattle.aeth_server.proofs.PrivateServerLemmas.{in-order}
-use Rattle.aeth_server.specs.Shape.{IsGranted}
-use Rattle.aeth_trace.specs.Channels.{is_channel}
-use Rattle.aeth_trace.specs.Words.{words_on}
-use Rattle.aeth_trace.specs.declared.words.WordRow.{WordRow}
-use Rattle.aeth_report.specs.declared.session.Session.{Session}
-use Rattle.aeth_report.specs.Bounds.{IsLandingOf, IsLoggedBy, IsLoggedInTime}
-use Rattle.aeth_report.specs.declared.log.Landing.{Landing}
-use Rattle.aeth_report.specs.Flows.{Run, close_at, flow_of, server_of, sessions_in, values_of}
-use Rattle.aeth_report.specs.Flows.{words_in}
-use Rattle.aeth_report.specs.RunLog.{counted_to, flow_log}
-use Rattle.aeth_report.specs.Sound.{IsSound}
-use Rattle.aeth_report.proofs.ClosingLemmas.{lands_by_finish}
-use Rattle.aeth_report.proofs.LogRows.{alone_logged, due_logged, row-is}
-use Rattle.aeth_report.proofs.OneFlit.{session-paths}
+use Rattle.std.specs.List.Sorted.{IsNonDecreasing, IsNonDecreasingBy}
+use Rattle.aeth_base.{specs.declared.ids.Channel.Channel, proofs.Filters.filter-map}
+use Rattle.aeth_server.{specs.Landing.IsDue, specs.Landing.WaitsAlone, specs.PrivateServer.accepted}
+use Rattle.aeth_server.{proofs.PrivateServerLemmas.in-order, specs.Shape.IsGranted}
+use Rattle.aeth_trace.specs.{Channels.is_channel, Words.words_on, declared.words.WordRow.WordRow}
+use Rattle.aeth_report.specs.{declared.session.Session.Session, Bounds.IsLandingOf}
+use Rattle.aeth_report.specs.{Bounds.IsLoggedBy, Bounds.IsLoggedInTime}
+use Rattle.aeth_report.specs.{declared.log.Landing.Landing, Flows.Run, Flows.close_at}
+use Rattle.aeth_report.specs.{Flows.flow_of, Flows.server_of, Flows.sessions_in, Flows.values_of}
+use Rattle.aeth_report.specs.{Flows.words_in, RunLog.counted_to, RunLog.flow_log, Sound.IsSound}
+use Rattle.aeth_report.proofs.{ClosingLemmas.lands_by_finish, LogRows.alone_logged}
+use Rattle.aeth_report.proofs.{LogRows.due_logged, LogRows.row-is, OneFlit.session-paths}
 
 -- The words of a channel come in the order of their cycles.
 offers-order : (words : List WordRow) (channel : Channel) → IsNonDecreasingBy (λ row. row.cycle) words

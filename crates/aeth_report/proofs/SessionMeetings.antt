@@ -1,21 +1,20 @@
 -- Two sessions that are in use in one cycle are together in one group, and of one connection they
 -- are one: by the finish of what each switch closes.
 use Rattle.std.proofs.Common.{◌≡◌, ◌≤◌, ◌<◌, ◌∙◌, ℕ, ◌+◌, List, [], ◌∷◌, Contains, Option, Some}
-use Rattle.std.proofs.Common.{None, slice_get, sym, ap, subst, inl, inr, arith}
-use Rattle.std.proofs.lemmas.Bool.{cases_lt, le-ltb, lt-ltb}
-use Rattle.std.specs.Prelude.{IfSome, Ok, ⊤, option_map}
-pub use Rattle.aeth_base.proofs.Lists.{map-slice_get as mapped_at}
+use Rattle.std.proofs.Common.{None, slice_get, sym, ap, subst, inl, inr, arith, le-ltb, lt-ltb}
+use Rattle.std.proofs.Common.{IfSome, Ok, option_map}
+use Rattle.std.proofs.lemmas.Bool.{cases_lt}
+use Rattle.std.specs.Prelude.{⊤}
 use Rattle.aeth_base.proofs.Members.{Contains-nil, map-Contains}
 use Rattle.aeth_group.specs.Members.{GroupsData}
-use Rattle.aeth_trace.specs.Spans.{SpanData}
-use Rattle.aeth_trace.specs.Switches.{are_apart, are_apart_from}
-use Rattle.aeth_trace.specs.declared.switches.SwitchRow.{SwitchRow}
+use Rattle.aeth_trace.specs.{Spans.SpanData, Switches.are_apart, Switches.are_apart_from}
+use Rattle.aeth_trace.specs.{declared.switches.SwitchRow.SwitchRow}
 use Rattle.aeth_report.specs.declared.session.Session.{Session}
 use Rattle.aeth_report.specs.Sessions.{AreTogether, IsInUse, Stay, Switch, close_by, go_by, go_of}
 use Rattle.aeth_report.specs.Sessions.{session_of, sessions_of, stays_of}
-use Rattle.aeth_report.proofs.Stays.{switch_of}
-use Rattle.aeth_report.proofs.StayMeetings.{AreRising, Covers, Meet, stays_meet}
-use Rattle.aeth_report.proofs.StaysAlone.{stays_alone}
+use Rattle.aeth_report.proofs.{Stays.switch_of, StayMeetings.AreRising, StayMeetings.Covers}
+use Rattle.aeth_report.proofs.{StayMeetings.Meet, StayMeetings.stays_meet, StaysAlone.stays_alone}
+pub use Rattle.aeth_base.proofs.Lists.{map-slice_get as mapped_at}
 
 -- Behind use case u, no row comes before `low`, and none before the channels are in use that the row
 -- before it opens.

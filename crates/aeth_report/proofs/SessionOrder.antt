@@ -1,16 +1,12 @@
 -- A session that goes after another one stops accepting goes only once that one has finished.
-use Rattle.std.proofs.Common.{◌≡◌, ◌≤◌, ◌<◌, ◌⊎◌, ◌∙◌, ℕ, List, [], ◌∷◌}
-use Rattle.std.proofs.Common.{Contains, Option, Some, None, ap, subst, inl, inr, arith}
-use Rattle.std.proofs.lemmas.Bool.{cases_Bool}
-use Rattle.std.proofs.lemmas.Option.{same_Some}
-use Rattle.std.specs.Prelude.{IfSome, Ok, option_map}
+use Rattle.std.proofs.Common.{◌≡◌, ◌≤◌, ◌<◌, ◌⊎◌, ◌∙◌, ℕ, List, [], ◌∷◌, Contains, Option, Some}
+use Rattle.std.proofs.Common.{None, ap, subst, inl, inr, arith, IfSome, Ok, option_map}
+use Rattle.std.proofs.lemmas.{Bool.cases_Bool, Option.same_Some}
 use Rattle.aeth_base.proofs.Members.{Contains-nil, map-Contains}
 use Rattle.aeth_group.specs.Members.{GroupsData, has_at, is_kept}
-use Rattle.aeth_trace.specs.Spans.{SpanData}
-use Rattle.aeth_trace.specs.Switches.{are_apart}
-use Rattle.aeth_trace.specs.declared.switches.SwitchRow.{SwitchRow}
-use Rattle.aeth_report.specs.declared.session.Close.{Close}
-use Rattle.aeth_report.specs.declared.session.Session.{Session}
+use Rattle.aeth_trace.specs.{Spans.SpanData, Switches.are_apart}
+use Rattle.aeth_trace.specs.{declared.switches.SwitchRow.SwitchRow}
+use Rattle.aeth_report.specs.declared.session.{Close.Close, Session.Session}
 use Rattle.aeth_report.specs.Sessions.{Stay, Switch, close_by, closing_in, go_by, go_of, opens}
 use Rattle.aeth_report.specs.Sessions.{session_of, sessions_of, stays_behind, stays_from, stays_of}
 use Rattle.aeth_report.proofs.SessionMeetings.{AreInTime, in_time}

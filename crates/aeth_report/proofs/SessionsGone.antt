@@ -1,19 +1,14 @@
 -- Of a connection's sessions in their order the last that has gone is the only one that may inject.
-use Rattle.std.proofs.Common.{◌≡◌, ◌≤◌, ◌<◌, ◌∙◌, ◌+◌, ℕ, zero, suc, List, [], ◌∷◌}
-use Rattle.std.proofs.Common.{Contains, Option, Some, None, slice_get, sym, refl, ap, subst, inl, inr, arith}
-use Rattle.std.proofs.lemmas.Bool.{cases_Bool, cases_lt}
-use Rattle.std.proofs.lemmas.Option.{same_Some}
-use Rattle.std.specs.Prelude.{IfSome, Ok, option_map, unwrap_or}
-use Rattle.aeth_base.specs.Limits.{max_path_delay}
-use Rattle.aeth_base.specs.declared.ids.Channel.{Channel}
-use Rattle.aeth_base.specs.declared.ids.Side.TheVariants.{Fwd}
-use Rattle.aeth_base.proofs.Members.{map-Contains}
+use Rattle.std.proofs.Common.{◌≡◌, ◌≤◌, ◌<◌, ◌∙◌, ◌+◌, ℕ, zero, suc, List, [], ◌∷◌, Contains}
+use Rattle.std.proofs.Common.{Option, Some, None, slice_get, sym, refl, ap, subst, inl, inr, arith}
+use Rattle.std.proofs.Common.{IfSome, Ok, option_map, unwrap_or}
+use Rattle.std.proofs.lemmas.{Bool.cases_Bool, Bool.cases_lt, Option.same_Some}
+use Rattle.aeth_base.{specs.Limits.max_path_delay, specs.declared.ids.Channel.Channel}
+use Rattle.aeth_base.{specs.declared.ids.Side.TheVariants.Fwd, proofs.Members.map-Contains}
 use Rattle.aeth_group.specs.Members.{GroupsData, has_at}
-use Rattle.aeth_trace.specs.Spans.{SpanData}
-use Rattle.aeth_trace.specs.Switches.{are_apart}
-use Rattle.aeth_trace.specs.declared.switches.SwitchRow.{SwitchRow}
-use Rattle.aeth_report.specs.declared.session.Close.{Close}
-use Rattle.aeth_report.specs.declared.session.Session.{Session}
+use Rattle.aeth_trace.specs.{Spans.SpanData, Switches.are_apart}
+use Rattle.aeth_trace.specs.{declared.switches.SwitchRow.SwitchRow}
+use Rattle.aeth_report.specs.declared.session.{Close.Close, Session.Session}
 use Rattle.aeth_report.specs.Flows.{Run, sessions_in}
 use Rattle.aeth_report.specs.Sessions.{IsInUse, MayInject, Stay, Switch, close_by, go_by, go_of}
 use Rattle.aeth_report.specs.Sessions.{opens, session_of, sessions_of, stays_behind, stays_of}

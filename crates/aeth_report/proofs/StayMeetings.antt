@@ -1,9 +1,9 @@
 -- Stays that cover one cycle have a use case in common, whatever is read of a switch: the finish of
 -- what it closes, or the first write of what it opens.
-use Rattle.std.proofs.Common.{◌≡◌, ◌≤◌, ◌<◌, ◌∙◌, ℕ, Bool, false, cond, List, [], ◌∷◌}
-use Rattle.std.proofs.Common.{Contains, Option, Some, sym, ap, subst, inl, inr, arith}
+use Rattle.std.proofs.Common.{◌≡◌, ◌≤◌, ◌<◌, ◌∙◌, ℕ, Bool, false, cond, List, [], ◌∷◌, Contains}
+use Rattle.std.proofs.Common.{Option, Some, sym, ap, subst, inl, inr, arith, IfSome, IsTrue}
 use Rattle.std.proofs.lemmas.Bool.{cases_Bool}
-use Rattle.std.specs.Prelude.{IfSome, IsTrue, ⊤}
+use Rattle.std.specs.Prelude.{⊤}
 use Rattle.aeth_base.proofs.Members.{Contains-nil}
 use Rattle.aeth_group.specs.Members.{GroupsData, group_at, has_at, is_kept}
 use Rattle.aeth_trace.specs.declared.switches.SwitchRow.{SwitchRow}

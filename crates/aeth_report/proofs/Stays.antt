@@ -1,13 +1,11 @@
 -- The stays of a connection: which there are, and what holds of each.
-use Rattle.std.proofs.Common.{◌≡◌, ◌<◌, ◌⊎◌, ℕ, zero, suc, ◌+◌, Bool, true, false, List, []}
-use Rattle.std.proofs.Common.{◌∷◌, Contains, Option, Some, None, length, slice_get, refl}
-use Rattle.std.proofs.Common.{subst, inl, inr, arith}
-use Rattle.std.specs.List.{All}
-use Rattle.std.proofs.lemmas.Bool.{cases_Bool, and_from, and_parts, eqb-true, both_ways}
-use Rattle.std.proofs.lemmas.Bool.{not_from_false}
+use Rattle.std.proofs.Common.{◌≡◌, ◌<◌, ◌⊎◌, ℕ, zero, suc, ◌+◌, Bool, true, false, List, [], ◌∷◌}
+use Rattle.std.proofs.Common.{Contains, Option, Some, None, length, slice_get, refl, subst, inl}
+use Rattle.std.proofs.Common.{inr, arith, eqb-true, IfSome, IsTrue, not, ◌&&◌, ◌==◌}
+use Rattle.std.proofs.lemmas.Bool.{cases_Bool, and_from, and_parts, both_ways, not_from_false}
 use Rattle.std.proofs.lemmas.List.Elements.{All-head, All-tail}
 use Rattle.std.proofs.lemmas.Option.{same_Some}
-use Rattle.std.specs.Prelude.{IfSome, IsTrue, not, ◌&&◌, ◌==◌}
+use Rattle.std.specs.List.{All}
 use Rattle.aeth_base.proofs.Members.{Contains-cases, Contains-here, Contains-nil, Contains-there}
 use Rattle.aeth_group.specs.Members.{GroupsData, group_at, has_at, is_kept}
 use Rattle.aeth_trace.specs.declared.switches.SwitchRow.{SwitchRow}

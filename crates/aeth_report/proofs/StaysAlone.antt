@@ -1,17 +1,15 @@
 -- Of the stays of one connection one alone covers a cycle.
-use Rattle.std.proofs.Common.{◌≡◌, ◌<◌, ◌∙◌, ℕ, Bool, cond, List, [], ◌∷◌}
-use Rattle.std.proofs.Common.{Contains, Option, Some, slice_get, sym, ap, subst, inl}
-use Rattle.std.proofs.Common.{inr, arith}
+use Rattle.std.proofs.Common.{◌≡◌, ◌<◌, ◌∙◌, ℕ, Bool, cond, List, [], ◌∷◌, Contains, Option, Some}
+use Rattle.std.proofs.Common.{slice_get, sym, ap, subst, inl, inr, arith, IfSome, not}
 use Rattle.std.proofs.lemmas.Bool.{cases_Bool, and_right, both_ways, not_from_true}
-use Rattle.std.specs.Prelude.{IfSome, not}
 use Rattle.aeth_base.proofs.Members.{Contains-nil}
-pub use Rattle.aeth_base.proofs.Members.{Contains-slice_get as at-Contains}
 use Rattle.aeth_group.specs.Members.{GroupsData, has_at, is_kept}
 use Rattle.aeth_trace.specs.declared.switches.SwitchRow.{SwitchRow}
 use Rattle.aeth_report.specs.Sessions.{Stay, Switch, closing_in, opens, stay_with, stays_behind}
 use Rattle.aeth_report.specs.Sessions.{stays_from}
 use Rattle.aeth_report.proofs.Stays.{opened, stay_with-cases, stay_with-place, switch_of}
 use Rattle.aeth_report.proofs.StayMeetings.{AreRising, Covers, closed_before, row_opens}
+pub use Rattle.aeth_base.proofs.Members.{Contains-slice_get as at-Contains}
 
 module _ (groups : GroupsData) (bound : Switch → ℕ) where
   -- A stay ends before those behind it begin.

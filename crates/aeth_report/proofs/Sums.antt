@@ -1,10 +1,8 @@
 -- Laws of sums and counts.
 use Rattle.std.proofs.Common.{◌≡◌, ◌≤◌, ◌∙◌, ℕ, suc, ◌+◌, Bool, true, false, List, [], ◌∷◌}
-use Rattle.std.proofs.Common.{Contains, Some, filter, slice_get, refl, inl, inr}
-use Rattle.std.proofs.Common.{arith}
+use Rattle.std.proofs.Common.{Contains, Some, filter, slice_get, refl, inl, inr, arith}
+use Rattle.std.proofs.lemmas.{Bool.cases_Bool, List.Sums.sum_by-cons}
 use Rattle.std.specs.List.{count_by, list_any, sum_by}
-use Rattle.std.proofs.lemmas.Bool.{cases_Bool}
-use Rattle.std.proofs.lemmas.List.Sums.{sum_by-cons}
 use Rattle.aeth_base.proofs.Lists.{count_by-no, count_by-yes}
 use Rattle.aeth_base.proofs.Members.{Contains-here, Contains-there}
 

@@ -1,36 +1,26 @@
 -- The sums over the log of a run, and the order of its counts.
-use Rattle.std.proofs.Common.{◌≡◌, ◌≤◌, ◌∙◌, ℕ, ◌+◌, ◌*◌, cond, List, [], ◌∷◌, Contains}
-use Rattle.std.proofs.Common.{filter, length, map, refl, sym, ap, subst, arith}
-use Rattle.std.specs.Prelude.{◌==◌, nat_lt, not, sum}
+use Rattle.std.proofs.Common.{◌≡◌, ◌≤◌, ◌∙◌, ℕ, ◌+◌, ◌*◌, cond, List, [], ◌∷◌, Contains, filter}
+use Rattle.std.proofs.Common.{length, map, refl, sym, ap, subst, arith, ◌==◌, nat_lt, not, sum}
+use Rattle.std.proofs.lemmas.List.{length-map, Elements.All-contains_itself}
+use Rattle.std.proofs.lemmas.List.{FromFn.length-range_with_len, Sums.count_by-le-length}
+use Rattle.std.proofs.lemmas.List.{Sums.length-filter, Sums.sum-map, Sums.sum_by-cons}
+use Rattle.std.proofs.lemmas.List.{Sums.sum_by-le, Sums.sum_by-le-sum_by}
 use Rattle.std.specs.List.{All, count_by, range_with_len, sum_by}
-use Rattle.std.proofs.lemmas.List.{length-map}
-use Rattle.std.proofs.lemmas.List.Elements.{All-contains_itself}
-use Rattle.std.proofs.lemmas.List.FromFn.{length-range_with_len}
-use Rattle.std.proofs.lemmas.List.Sums.{count_by-le-length, length-filter, sum-map, sum_by-cons, sum_by-le}
-use Rattle.std.proofs.lemmas.List.Sums.{sum_by-le-sum_by}
 use Rattle.aeth_base.specs.declared.ids.Channel.{Channel}
-use Rattle.aeth_base.proofs.Lists.{sum_by-map}
-use Rattle.aeth_base.proofs.Members.{filter-Contains, map-Contains}
-use Rattle.aeth_server.specs.PrivateServer.{PrivateServer, landed}
-use Rattle.aeth_server.specs.Shape.{HasPaths}
+use Rattle.aeth_base.proofs.{Lists.sum_by-map, Members.filter-Contains, Members.map-Contains}
+use Rattle.aeth_server.specs.{PrivateServer.PrivateServer, PrivateServer.landed, Shape.HasPaths}
 use Rattle.aeth_server.proofs.PrivateServerLemmas.{has-grown, in-order}
-use Rattle.aeth_trace.specs.Channels.{is_channel}
-use Rattle.aeth_trace.specs.Words.{words_on}
-use Rattle.aeth_trace.specs.declared.words.WordRow.{WordRow}
-use Rattle.aeth_report.specs.Carries.{carries}
-use Rattle.aeth_report.specs.Channels.{channels_of}
-use Rattle.aeth_report.specs.Flows.{Flow, Run, flow_of, flows_on, sessions_in}
-use Rattle.aeth_report.specs.Log.{ChannelData, SessionData}
-use Rattle.aeth_report.specs.Regular.{IsOrdered, landings_in, offered_in}
-use Rattle.aeth_report.specs.RunLog.{channel_log, counted_to, flits_over, flow_log, landing_of}
-use Rattle.aeth_report.specs.RunLog.{log_of, session_log}
-use Rattle.aeth_report.specs.Sound.{IsSound}
-use Rattle.aeth_report.proofs.Accounts.{is_before}
-use Rattle.aeth_report.proofs.FlowPlaces.{channels_of-once}
-use Rattle.aeth_report.proofs.ChannelLemmas.{same_channel}
-use Rattle.aeth_report.proofs.OneFlit.{session-paths}
-use Rattle.aeth_report.proofs.RegularLemmas.{channel-accounted}
-use Rattle.aeth_report.proofs.Sums.{count_by-sole, sum_by-below, sum_by-none, sum_by-plus}
+use Rattle.aeth_trace.specs.{Channels.is_channel, Words.words_on, declared.words.WordRow.WordRow}
+use Rattle.aeth_report.specs.{Carries.carries, Channels.channels_of, Flows.Flow, Flows.Run}
+use Rattle.aeth_report.specs.{Flows.flow_of, Flows.flows_on, Flows.sessions_in, Log.ChannelData}
+use Rattle.aeth_report.specs.{Log.SessionData, Regular.IsOrdered, Regular.landings_in}
+use Rattle.aeth_report.specs.{Regular.offered_in, RunLog.channel_log, RunLog.counted_to}
+use Rattle.aeth_report.specs.{RunLog.flits_over, RunLog.flow_log, RunLog.landing_of, RunLog.log_of}
+use Rattle.aeth_report.specs.{RunLog.session_log, Sound.IsSound}
+use Rattle.aeth_report.proofs.{Accounts.is_before, FlowPlaces.channels_of-once}
+use Rattle.aeth_report.proofs.{ChannelLemmas.same_channel, OneFlit.session-paths}
+use Rattle.aeth_report.proofs.{RegularLemmas.channel-accounted, Sums.count_by-sole}
+use Rattle.aeth_report.proofs.{Sums.sum_by-below, Sums.sum_by-none, Sums.sum_by-plus}
 
 -- What holds of what is in a list holds of all.
 pub All-members : {X : Type 0} (P : X → Type 0) (xs : List X) → ((x : X) → Contains xs x → P x)

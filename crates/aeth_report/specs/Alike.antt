@@ -1,15 +1,12 @@
 -- What the log of one channel rests on: its sessions, its words and its receiver, and what its
 -- connection wishes and is granted in the group of each session. Nothing else of a run shows in it.
 -- This project's own.
-use Rattle.std.specs.Prelude.{◌≡◌, ℕ, Contains}
+use Rattle.std.proofs.Common.{◌≡◌, ℕ, Contains}
 use Rattle.aeth_base.specs.declared.ids.Channel.{Channel}
 use Rattle.aeth_chip.specs.Paths.{path_delay}
-use Rattle.aeth_trace.specs.Receivers.{pulls_on}
-use Rattle.aeth_trace.specs.Words.{words_on}
-use Rattle.aeth_report.specs.declared.session.Session.{Session}
-use Rattle.aeth_report.specs.Channels.{opposite}
-use Rattle.aeth_report.specs.Design.{Design, connection_at, grant_at}
-use Rattle.aeth_report.specs.Flows.{Run, sessions_in}
+use Rattle.aeth_trace.specs.{Receivers.pulls_on, Words.words_on}
+use Rattle.aeth_report.specs.{declared.session.Session.Session, Channels.opposite, Design.Design}
+use Rattle.aeth_report.specs.{Design.connection_at, Design.grant_at, Flows.Run, Flows.sessions_in}
 
 -- A channel has the same slots in a group of two designs, on paths of the same delay.
 pub record IsGrantedAlike (one other : Design) (channel : Channel) (group : ℕ) : Type 0 where

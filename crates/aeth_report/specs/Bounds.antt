@@ -1,15 +1,12 @@
 -- What a log shows of a session: which landings its rows tell, and by when its words have one.
 -- Due cycles: after the latency-rate server (Stiliadis and Varma, 1998), for whole words.
-use Rattle.std.specs.Prelude.{◌≡◌, ◌≤◌, ◌<◌, ℕ, ◌-◌, ◌*◌, Some, slice_get}
+use Rattle.std.proofs.Common.{◌≡◌, ◌≤◌, ◌<◌, ℕ, ◌-◌, ◌*◌, Some, slice_get}
 use Rattle.aeth_base.specs.declared.ids.Channel.{Channel}
-use Rattle.aeth_server.specs.Landing.{LandsAt, due_time}
-use Rattle.aeth_server.specs.PrivateServer.{PrivateServer}
+use Rattle.aeth_server.specs.{Landing.LandsAt, Landing.due_time, PrivateServer.PrivateServer}
 use Rattle.aeth_trace.specs.declared.words.WordRow.{WordRow}
-use Rattle.aeth_report.specs.declared.log.Landing.{Landing}
-use Rattle.aeth_report.specs.declared.session.Session.{Session}
-use Rattle.aeth_report.specs.Flows.{Run, server_of, words_in}
-use Rattle.aeth_report.specs.Log.{SessionData}
-use Rattle.aeth_report.specs.RunLog.{due_of}
+use Rattle.aeth_report.specs.{declared.log.Landing.Landing, declared.session.Session.Session}
+use Rattle.aeth_report.specs.{Flows.Run, Flows.server_of, Flows.words_in, Log.SessionData}
+use Rattle.aeth_report.specs.{RunLog.due_of}
 
 -- A row is the landing of the i-th word that a channel's session accepts: in the cycle in which it
 -- lands on the private server, within the run and before the session finishes.

@@ -10,19 +10,16 @@
 --   carries      the flits of all flows
 --   IsCarried      one of them
 -- A header that names route and queue, and brings credits back: after Æthereal (2005).
-use Rattle.std.specs.Prelude.{ℕ, ◌+◌, ◌-◌, ◌*◌, ◌/◌, ◌^◌, ◌<◌, ◌==◌, ◌&&◌, nat_le, nat_lt, not, Bool}
-use Rattle.std.specs.Prelude.{if◌then◌else◌, IsTrue, Some, slice_get, ◌≡◌, List, [], ◌∷◌, drop}
-use Rattle.std.specs.Prelude.{flat_map, slice_index, take}
+use Rattle.std.proofs.Common.{ℕ, ◌+◌, ◌-◌, ◌*◌, ◌/◌, ◌^◌, ◌<◌, ◌==◌, ◌&&◌, nat_le, nat_lt, not}
+use Rattle.std.proofs.Common.{Bool, if◌then◌else◌, IsTrue, Some, slice_get, ◌≡◌, List, [], ◌∷◌}
+use Rattle.std.proofs.Common.{drop, flat_map, slice_index, take}
 use Rattle.std.specs.List.{enumerate_from}
 use Rattle.aeth_base.specs.declared.ids.LinkId.{LinkId}
-use Rattle.aeth_chip.specs.Paths.{offset}
-use Rattle.aeth_chip.specs.declared.node.Link.{Link}
+use Rattle.aeth_chip.specs.{Paths.offset, declared.node.Link.Link}
 use Rattle.aeth_clocked.specs.declared.flit.Flit.{Flit}
-use Rattle.aeth_header.specs.Header.{word_of}
-use Rattle.aeth_header.specs.Layout.{port_bits, queue_bits, route_bits}
-use Rattle.aeth_header.specs.declared.header.Header.{Header}
-use Rattle.aeth_server.specs.PrivateServer.{credited, sent}
-use Rattle.aeth_server.specs.Shape.{HasPaths}
+use Rattle.aeth_header.specs.{Header.word_of, Layout.port_bits, Layout.queue_bits}
+use Rattle.aeth_header.specs.{Layout.route_bits, declared.header.Header.Header}
+use Rattle.aeth_server.specs.{PrivateServer.credited, PrivateServer.sent, Shape.HasPaths}
 use Rattle.aeth_report.specs.Flows.{Flow, Run, flows_of}
 
 -- How many words a flow's flit of a cycle has.

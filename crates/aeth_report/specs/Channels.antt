@@ -3,10 +3,10 @@
 --   channels_of      the channels of so many connections
 --   opposite      the channel back
 -- A connection with a channel each way: after Æthereal (2005).
-use Rattle.std.specs.Prelude.{ℕ, List, flat_map}
+use Rattle.std.proofs.Common.{ℕ, List, flat_map}
 use Rattle.std.specs.List.{range_with_len}
-pub use Rattle.aeth_base.specs.Sides.{channels_with, other_side}
 use Rattle.aeth_base.specs.declared.ids.Channel.{Channel}
+pub use Rattle.aeth_base.specs.Sides.{channels_with, other_side}
 pub use Rattle.aeth_app.specs.Connections.{receiver, sender}
 
 -- The channels of so many connections, in channel order.

@@ -8,23 +8,17 @@
 --   remote_at, shape_at      the queue at which a channel lands, and its shape in a group
 -- Grants and queues: after Æthereal (2005). Seats: after UMARS (2005). Queue numbers: this project's
 -- own.
-use Rattle.std.specs.Prelude.{ℕ, ◌+◌, ◌*◌, ◌==◌, ◌&&◌, Bool, List, [], find, unwrap_or}
+use Rattle.std.proofs.Common.{ℕ, ◌+◌, ◌*◌, ◌==◌, ◌&&◌, Bool, List, [], find, unwrap_or}
 use Rattle.std.specs.List.{slice_index_or}
 use Rattle.aeth_base.specs.Sides.{same_side}
-use Rattle.aeth_base.specs.declared.ids.Channel.{Channel}
-use Rattle.aeth_base.specs.declared.ids.ConnId.{ConnId}
-use Rattle.aeth_base.specs.declared.ids.CoreId.{CoreId}
+use Rattle.aeth_base.specs.declared.ids.{Channel.Channel, ConnId.ConnId, CoreId.CoreId}
 use Rattle.aeth_base.specs.Limits.{words_per_flit}
-use Rattle.aeth_chip.specs.Chip.{ChipData}
-use Rattle.aeth_chip.specs.Paths.{path_delay}
-use Rattle.aeth_app.specs.App.{AppData, position_of, wish_of}
-use Rattle.aeth_app.specs.Limits.{max_core_connections}
-use Rattle.aeth_app.specs.Rates.{need_of}
-use Rattle.aeth_app.specs.declared.connection.Connection.{Connection}
-use Rattle.aeth_app.specs.declared.connection.Wish.{Wish}
+use Rattle.aeth_chip.specs.{Chip.ChipData, Paths.path_delay}
+use Rattle.aeth_app.specs.{App.AppData, App.position_of, App.wish_of, Limits.max_core_connections}
+use Rattle.aeth_app.specs.{Rates.need_of, declared.connection.Connection.Connection}
+use Rattle.aeth_app.specs.{declared.connection.Wish.Wish}
 use Rattle.aeth_group.specs.Members.{GroupsData}
-use Rattle.aeth_group.specs.declared.grant.Grant.{Grant}
-use Rattle.aeth_group.specs.declared.grant.SeatLine.{SeatLine}
+use Rattle.aeth_group.specs.declared.grant.{Grant.Grant, SeatLine.SeatLine}
 use Rattle.aeth_server.specs.Shape.{Shape}
 use Rattle.aeth_report.specs.Channels.{opposite, receiver}
 

@@ -7,25 +7,18 @@
 --   Flow, flow_of      a session of a channel as a flow
 --   flows_on, flows_of      those of a channel, and of all channels
 -- This project's own.
-use Rattle.std.specs.Prelude.{ℕ, ◌+◌, ◌&&◌, nat_le, nat_lt, Bool, List, filter, flat_map, map}
-use Rattle.std.specs.Prelude.{unwrap_or}
+use Rattle.std.proofs.Common.{ℕ, ◌+◌, ◌&&◌, nat_le, nat_lt, Bool, List, filter, flat_map, map}
+use Rattle.std.proofs.Common.{unwrap_or}
 use Rattle.aeth_base.specs.Limits.{max_path_delay}
-use Rattle.aeth_base.specs.declared.ids.Channel.{Channel}
-use Rattle.aeth_base.specs.declared.ids.LinkId.{LinkId}
-use Rattle.aeth_server.specs.PrivateServer.{PrivateServer}
-use Rattle.aeth_server.specs.Shape.{buffer_of}
-use Rattle.aeth_trace.specs.Receivers.{pull_at}
-use Rattle.aeth_trace.specs.Spans.{SpanData}
-use Rattle.aeth_trace.specs.Words.{words_on}
-use Rattle.aeth_trace.specs.declared.receivers.PullRow.{PullRow}
-use Rattle.aeth_trace.specs.declared.switches.SwitchRow.{SwitchRow}
-use Rattle.aeth_trace.specs.declared.words.WordRow.{WordRow}
-use Rattle.aeth_report.specs.declared.session.Close.{Close}
-use Rattle.aeth_report.specs.declared.session.Session.{Session}
-use Rattle.aeth_report.specs.Channels.{channels_of, opposite}
-use Rattle.aeth_report.specs.Design.{Design, grant_at, remote_at, shape_at}
-use Rattle.aeth_report.specs.Routes.{route_along}
-use Rattle.aeth_report.specs.Sessions.{sessions_of}
+use Rattle.aeth_base.specs.declared.ids.{Channel.Channel, LinkId.LinkId}
+use Rattle.aeth_server.specs.{PrivateServer.PrivateServer, Shape.buffer_of}
+use Rattle.aeth_trace.specs.{Receivers.pull_at, Spans.SpanData, Words.words_on}
+use Rattle.aeth_trace.specs.{declared.receivers.PullRow.PullRow}
+use Rattle.aeth_trace.specs.{declared.switches.SwitchRow.SwitchRow, declared.words.WordRow.WordRow}
+use Rattle.aeth_report.specs.{declared.session.Close.Close, declared.session.Session.Session}
+use Rattle.aeth_report.specs.{Channels.channels_of, Channels.opposite, Design.Design}
+use Rattle.aeth_report.specs.{Design.grant_at, Design.remote_at, Design.shape_at}
+use Rattle.aeth_report.specs.{Routes.route_along, Sessions.sessions_of}
 
 -- What a run is given: a design, how long its switches take, the rows of the three traces, and the
 -- number of cycles.

@@ -1,6 +1,6 @@
 -- The numbers of the rules that this crate is the lowest to need.
 -- This project's own.
-use Rattle.std.specs.Prelude.{ℕ}
+use Rattle.std.proofs.Common.{ℕ}
 
 -- The words, the landings and the flits of a log are at most so many.
 abbrev pub max_total : ℕ

@@ -1,6 +1,6 @@
 -- What the log of a run is seen as.
 -- This project's own.
-use Rattle.std.specs.Prelude.{ℕ, Bool, List}
+use Rattle.std.proofs.Common.{ℕ, Bool, List}
 use Rattle.aeth_base.specs.declared.ids.Channel.{Channel}
 use Rattle.aeth_report.specs.declared.log.Landing.{Landing}
 

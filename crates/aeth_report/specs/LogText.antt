@@ -7,15 +7,14 @@
 --   link_line      a link
 --   lines_of, text_of      all lines, and the text
 -- This project's own.
-use Rattle.std.specs.Prelude.{ℕ, ◌+◌, ◌*◌, ◌-◌, ◌==◌, Bool, true, false, if◌then◌else◌, List, [], ◌∷◌, ◌++◌}
-use Rattle.std.specs.Prelude.{codes, decimal, flat_map, map, slice_get, Option, Some, None}
+use Rattle.std.proofs.Common.{ℕ, ◌+◌, ◌*◌, ◌-◌, ◌==◌, Bool, true, false, if◌then◌else◌, List, []}
+use Rattle.std.proofs.Common.{◌∷◌, ◌++◌, codes, decimal, flat_map, map, slice_get, Option, Some}
+use Rattle.std.proofs.Common.{None}
 use Rattle.std.specs.List.{enumerate_from, join_with_byte}
-use Rattle.aeth_base.specs.declared.ids.Channel.{Channel}
-use Rattle.aeth_base.specs.declared.ids.Side.{Side}
+use Rattle.aeth_base.specs.declared.ids.{Channel.Channel, Side.Side}
 use Rattle.aeth_text.specs.Limits.{field_room, space}
 use Rattle.aeth_text.specs.Spelling.{side_word, text_of_lines}
-use Rattle.aeth_app.specs.App.{AppData}
-use Rattle.aeth_app.specs.declared.connection.Connection.{Connection}
+use Rattle.aeth_app.specs.{App.AppData, declared.connection.Connection.Connection}
 use Rattle.aeth_report.specs.declared.log.Landing.{Landing}
 use Rattle.aeth_report.specs.Log.{ChannelData, LogData, SessionData}
 

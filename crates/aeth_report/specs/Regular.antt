@@ -4,11 +4,10 @@
 --   offered_in, landings_in      sums over a channel
 --   IsRegular      a log that is regular for an application
 -- This project's own.
-use Rattle.std.specs.Prelude.{◌≡◌, ◌≤◌, ℕ, All, length, map, sum, sum_by}
+use Rattle.std.proofs.Common.{◌≡◌, ◌≤◌, ℕ, All, length, map, sum, sum_by}
 use Rattle.aeth_app.specs.App.{AppData}
-use Rattle.aeth_report.specs.Channels.{channels_of}
-use Rattle.aeth_report.specs.Limits.{max_total}
-use Rattle.aeth_report.specs.Log.{ChannelData, LogData, SessionData}
+use Rattle.aeth_report.specs.{Channels.channels_of, Limits.max_total, Log.ChannelData, Log.LogData}
+use Rattle.aeth_report.specs.{Log.SessionData}
 
 -- A session has landed no more words than were offered, and its receiver has taken no more than have
 -- landed.

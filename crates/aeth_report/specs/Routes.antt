@@ -1,11 +1,10 @@
 -- Routes along paths: the output ports that a flit takes at the routers, one for each link behind the
 -- first.
 -- Source routing by output ports: after Æthereal (2005).
-use Rattle.std.specs.Prelude.{ℕ, ◌==◌, List, map, drop, position, option_and_then, unwrap_or}
+use Rattle.std.proofs.Common.{ℕ, ◌==◌, List, map, drop, position, option_and_then, unwrap_or}
 use Rattle.aeth_base.specs.declared.ids.LinkId.{LinkId}
 use Rattle.aeth_chip.specs.Nodes.{sender_of, sends_on}
-use Rattle.aeth_chip.specs.declared.node.Link.{Link}
-use Rattle.aeth_chip.specs.declared.node.Node.TheVariants.{Router}
+use Rattle.aeth_chip.specs.declared.node.{Link.Link, Node.TheVariants.Router}
 use Rattle.aeth_header.specs.Route.{route_of}
 
 -- The port of a link: its place among the links on which its router sends; 0 where no router sends

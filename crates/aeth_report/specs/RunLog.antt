@@ -9,20 +9,17 @@
 --   flits_over      how many flits a link carries
 --   log_of      the log
 -- This project's own.
-use Rattle.std.specs.Prelude.{ℕ, ◌+◌, ◌==◌, min, nat_lt, not, Bool, List, count_by, filter, length}
-use Rattle.std.specs.Prelude.{map, slice_index, ◌&&◌}
+use Rattle.std.proofs.Common.{ℕ, ◌+◌, ◌==◌, min, nat_lt, not, Bool, List, count_by, filter, length}
+use Rattle.std.proofs.Common.{map, slice_index, ◌&&◌}
 use Rattle.std.specs.List.{list_any, range_with_len}
 use Rattle.aeth_base.specs.declared.ids.Channel.{Channel}
 use Rattle.aeth_server.specs.FinishTimes.{due_cycle}
 use Rattle.aeth_server.specs.Landing.{due_time, landing_cycle}
 use Rattle.aeth_server.specs.PrivateServer.{PrivateServer, accepted, arrived, landed, taken}
-use Rattle.aeth_trace.specs.Words.{words_on}
-use Rattle.aeth_trace.specs.declared.words.WordRow.{WordRow}
-use Rattle.aeth_report.specs.declared.log.Landing.{Landing}
-use Rattle.aeth_report.specs.Channels.{channels_of}
-use Rattle.aeth_report.specs.Carries.{carries}
-use Rattle.aeth_report.specs.Flows.{Flow, Run, flows_on, is_within}
-use Rattle.aeth_report.specs.Log.{ChannelData, LogData, SessionData}
+use Rattle.aeth_trace.specs.{Words.words_on, declared.words.WordRow.WordRow}
+use Rattle.aeth_report.specs.{declared.log.Landing.Landing, Channels.channels_of, Carries.carries}
+use Rattle.aeth_report.specs.{Flows.Flow, Flows.Run, Flows.flows_on, Flows.is_within}
+use Rattle.aeth_report.specs.{Log.ChannelData, Log.LogData, Log.SessionData}
 
 -- A log counts the cycles of a session up to its finish, and those of the run.
 abbrev pub counted_to : ℕ → PrivateServer → ℕ

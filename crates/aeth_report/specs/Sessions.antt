@@ -13,14 +13,12 @@
 --   IsInUse, MayInject, AreTogether      what holds of a session in a cycle, and of two connections
 -- Slot tables that are written while the network runs: after Æthereal (2005). Channels that go on
 -- through a switch: this project's own.
-use Rattle.std.specs.Prelude.{◌≡◌, ◌≤◌, ◌<◌, ℕ, ◌+◌, ◌&&◌, not, Bool, IsTrue, if◌then◌else◌}
-use Rattle.std.specs.Prelude.{List, [], ◌∷◌, Option, Some, None, IfSome, map, option_map}
+use Rattle.std.proofs.Common.{◌≡◌, ◌≤◌, ◌<◌, ℕ, ◌+◌, ◌&&◌, not, Bool, IsTrue, if◌then◌else◌, List}
+use Rattle.std.proofs.Common.{[], ◌∷◌, Option, Some, None, IfSome, map, option_map}
 use Rattle.aeth_group.specs.Members.{GroupsData, group_at, has_at, is_kept}
-use Rattle.aeth_trace.specs.Spans.{SpanData, span_of}
-use Rattle.aeth_trace.specs.Switches.{go_after}
-use Rattle.aeth_trace.specs.declared.switches.SwitchRow.{SwitchRow}
-use Rattle.aeth_report.specs.declared.session.Close.{Close}
-use Rattle.aeth_report.specs.declared.session.Session.{Session}
+use Rattle.aeth_trace.specs.{Spans.SpanData, Spans.span_of, Switches.go_after}
+use Rattle.aeth_trace.specs.{declared.switches.SwitchRow.SwitchRow}
+use Rattle.aeth_report.specs.declared.session.{Close.Close, Session.Session}
 
 -- Whether a switch from one use case to another closes a connection: the one that is left has it,
 -- and it isn't kept.

@@ -1,22 +1,15 @@
 -- What a run rests on: plain facts that an accepted plan, the spans of its switches, and switches that
 -- were read with these spans give.
 -- This project's own.
-use Rattle.std.specs.Prelude.{◌≡◌, ◌≤◌, ◌<◌, ℕ, IsTrue, List, All, Contains, Ok, Some, length, slice_get}
+use Rattle.std.proofs.Common.{◌≡◌, ◌≤◌, ◌<◌, ℕ, IsTrue, List, All, Contains, Ok, Some, length}
+use Rattle.std.proofs.Common.{slice_get}
 use Rattle.aeth_base.specs.Limits.{max_cycles, max_path_delay}
-use Rattle.aeth_base.specs.declared.ids.Channel.{Channel}
-use Rattle.aeth_base.specs.declared.ids.LinkId.{LinkId}
-use Rattle.aeth_chip.specs.Limits.{max_links}
-use Rattle.aeth_chip.specs.Paths.{path_delay}
-use Rattle.aeth_chip.specs.declared.node.Link.{Link}
-use Rattle.aeth_group.specs.Conflict.{Conflict}
-use Rattle.aeth_group.specs.Members.{group_at, has_at}
-use Rattle.aeth_group.specs.declared.grant.Grant.{Grant}
-use Rattle.aeth_trace.specs.Limits.{max_rows}
-use Rattle.aeth_trace.specs.Spans.{span_of}
-use Rattle.aeth_trace.specs.Switches.{are_apart}
-use Rattle.aeth_report.specs.Design.{Design, grant_at}
-use Rattle.aeth_report.specs.Flows.{Run}
-use Rattle.aeth_report.specs.Sessions.{closes}
+use Rattle.aeth_base.specs.declared.ids.{Channel.Channel, LinkId.LinkId}
+use Rattle.aeth_chip.specs.{Limits.max_links, Paths.path_delay, declared.node.Link.Link}
+use Rattle.aeth_group.specs.{Conflict.Conflict, Members.group_at, Members.has_at}
+use Rattle.aeth_group.specs.{declared.grant.Grant.Grant}
+use Rattle.aeth_trace.specs.{Limits.max_rows, Spans.span_of, Switches.are_apart}
+use Rattle.aeth_report.specs.{Design.Design, Design.grant_at, Flows.Run, Sessions.closes}
 
 -- A flit is on the path for some cycles, and not for too many.
 pub record HasDelay (links : List Link) (path : List LinkId) : Type 0 where

@@ -1,17 +1,13 @@
 -- Laws of what comes to wires of what is sent on the links of ports.
-use Rattle.std.proofs.Common.{◌≡◌, ◌≢◌, ◌<◌, ℕ, refl, sym, ap, ◌∙◌, inl, inr}
-use Rattle.std.proofs.Common.{List, length, length-set, Option, Some, None, slice_get}
-use Rattle.std.specs.Prelude.{◌==◌, option_and_then, position}
+use Rattle.std.proofs.Common.{◌≡◌, ◌≢◌, ◌<◌, ℕ, refl, sym, ap, ◌∙◌, inl, inr, List, length}
+use Rattle.std.proofs.Common.{length-set, Option, Some, None, slice_get, ◌==◌, option_and_then}
+use Rattle.std.proofs.Common.{position, get_or-set_other, get_or-set_same}
+use Rattle.std.proofs.lemmas.{Bool.cases_eq, Option.same_Some}
 use Rattle.std.specs.List.{slice_set}
-use Rattle.std.proofs.lemmas.Bool.{cases_eq}
-use Rattle.std.proofs.lemmas.List.{get_or-set_other, get_or-set_same}
-use Rattle.std.proofs.lemmas.Option.{same_Some}
 use Rattle.aeth_clocked.specs.declared.flit.Flit.{Flit}
-use Rattle.aeth_router.specs.Onward.{Adds, Arrival, Nothing, arrival_at, arrived}
-use Rattle.aeth_router.specs.Router.{AreDistinctLinks}
-use Rattle.aeth_router.specs.TableRouter.{sent_on}
-use Rattle.aeth_router.proofs.TableLemmas.{sent_on-port}
-use Rattle.aeth_router.proofs.TrafficLemmas.{port-at}
+use Rattle.aeth_router.specs.{Onward.Adds, Onward.Arrival, Onward.Nothing, Onward.arrival_at}
+use Rattle.aeth_router.specs.{Onward.arrived, Router.AreDistinctLinks, TableRouter.sent_on}
+use Rattle.aeth_router.proofs.{TableLemmas.sent_on-port, TrafficLemmas.port-at}
 
 -- A link carries nothing where no port does whose link it is.
 pub sent_on-none : (outgoing : List ℕ) (carried : ℕ → Option Flit) (link : ℕ)

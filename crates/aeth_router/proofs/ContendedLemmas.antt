@@ -1,14 +1,13 @@
 -- Laws of the notes that are kept of what comes to wires: the first flits, and marks of the wires to
 -- which others came.
-use Rattle.std.proofs.Common.{◌≡◌, ◌≢◌, ◌<◌, ◌≤◌, ◌+◌, ◌∙◌, ℕ, refl, sym, ap, inl, inr}
-use Rattle.std.proofs.Common.{arith, Bool, true, Option, Some, None, IsSome, is_some, List, [], ◌∷◌}
-use Rattle.std.proofs.Common.{length, length-set, map}
-use Rattle.std.specs.List.{slice_set}
+use Rattle.std.proofs.Common.{◌≡◌, ◌≢◌, ◌<◌, ◌≤◌, ◌+◌, ◌∙◌, ℕ, refl, sym, ap, inl, inr, arith, Bool}
+use Rattle.std.proofs.Common.{true, Option, Some, None, IsSome, is_some, List, [], ◌∷◌, length}
+use Rattle.std.proofs.Common.{length-set, map}
 use Rattle.std.proofs.lemmas.Bool.{cases_Bool, cases_eq, cases_lt}
+use Rattle.std.specs.List.{slice_set}
 use Rattle.aeth_base.specs.Marks.{bit_of, is_marked, marked_from, room_of}
 use Rattle.aeth_base.proofs.MarkedLemmas.{is_marked-one, is_marked-zero, next-passing, none-passing}
-use Rattle.aeth_clocked.specs.Wires.{flit_on}
-use Rattle.aeth_clocked.specs.declared.flit.Flit.{Flit}
+use Rattle.aeth_clocked.specs.{Wires.flit_on, declared.flit.Flit.Flit}
 use Rattle.aeth_clocked.proofs.UsedLemmas.{flit-within}
 use Rattle.aeth_router.specs.Onward.{AreContended, arrival_of, arrivals_of, carried}
 use Rattle.aeth_router.proofs.OnwardLemmas.{carried-arrivals_of, flit_on-apart, flit_on-put}

@@ -1,13 +1,10 @@
 -- Laws of routers that hold no flit, which a network need not step.
-use Rattle.std.proofs.Common.{◌≡◌, ℕ, zero, suc, refl, ap, ◌∙◌}
-use Rattle.std.proofs.Common.{List, [], ◌∷◌, length, map, replicate, slice_get}
-use Rattle.std.proofs.Common.{Option, Some, None}
-use Rattle.std.specs.Prelude.{◌==◌, option_and_then, position}
-use Rattle.aeth_clocked.specs.declared.flit.Flit.{Flit}
-use Rattle.aeth_clocked.specs.Resting.{HasNoFlit}
-use Rattle.aeth_clocked.specs.Wires.{Drives, flit_on}
-use Rattle.aeth_router.specs.Ports.{flits_for, sole}
-use Rattle.aeth_router.specs.Router.{emitted_on, is_among}
+use Rattle.std.proofs.Common.{◌≡◌, ℕ, zero, suc, refl, ap, ◌∙◌, List, [], ◌∷◌, length, map}
+use Rattle.std.proofs.Common.{replicate, slice_get, Option, Some, None, ◌==◌, option_and_then}
+use Rattle.std.proofs.Common.{position}
+use Rattle.aeth_clocked.specs.{declared.flit.Flit.Flit, Resting.HasNoFlit, Wires.Drives}
+use Rattle.aeth_clocked.specs.{Wires.flit_on}
+use Rattle.aeth_router.specs.{Ports.flits_for, Ports.sole, Router.emitted_on, Router.is_among}
 use Rattle.aeth_router.proofs.LinkLemmas.{is_among-at}
 
 -- Where none is held, there is no flit for a port.

@@ -1,18 +1,15 @@
 -- Laws of the lists of links of a router.
-use Rattle.std.proofs.Common.{◌≡◌, ◌<◌, ◌+◌, ℕ, zero, suc, refl, ap, inl, inr, arith}
-use Rattle.std.proofs.Common.{length, Bool, true, List, [], ◌∷◌, Some, slice_get}
-use Rattle.std.proofs.Common.{None, get_or, take, ◌∙◌, ◌⊎◌}
-use Rattle.std.specs.Prelude.{◌==◌, count_by, position}
-use Rattle.std.specs.List.{position_or_len}
+use Rattle.std.proofs.Common.{◌≡◌, ◌<◌, ◌+◌, ℕ, zero, suc, refl, ap, inl, inr, arith, length, Bool}
+use Rattle.std.proofs.Common.{true, List, [], ◌∷◌, Some, slice_get, None, get_or, take, ◌∙◌, ◌⊎◌}
+use Rattle.std.proofs.Common.{◌==◌, count_by, position, eq-eqb, eqb-true, le-ltb}
 use Rattle.std.proofs.lemmas.Map.Keys.{any_passes_from_place}
-use Rattle.std.proofs.lemmas.Bool.{cases_Bool, eq-eqb, cases_eq, cases_lt, eqb-true, le-ltb}
-use Rattle.std.proofs.lemmas.Bool.Decides.{nat_tests}
+use Rattle.std.proofs.lemmas.Bool.{cases_Bool, cases_eq, cases_lt, Decides.nat_tests}
 use Rattle.std.proofs.lemmas.List.Sums.{passes_at_first, position_or_len_is}
 use Rattle.std.proofs.lemmas.Option.{same_Some, slice_get_within, slice_get-get_or}
 use Rattle.std.proofs.lemmas.Option.{get_or_from_slice_get}
+use Rattle.std.specs.List.{position_or_len}
 use Rattle.aeth_base.proofs.Members.{list_any-Contains, slice_get-Contains}
-use Rattle.aeth_chip.specs.declared.node.Link.{Link}
-use Rattle.aeth_chip.specs.Nodes.{numbers_from}
+use Rattle.aeth_chip.specs.{declared.node.Link.Link, Nodes.numbers_from}
 use Rattle.aeth_chip.proofs.NodeLemmas.{numbers_from-at, numbers_from-found}
 use Rattle.aeth_clocked.specs.Wires.{AreLinks}
 use Rattle.aeth_router.specs.Router.{AreDistinctLinks, is_among}

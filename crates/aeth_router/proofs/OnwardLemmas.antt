@@ -1,19 +1,17 @@
 -- Laws of what comes to wires within a cycle: of what has come to each, of what each carries, of who
 -- sent it, and of the notes that are kept of it.
 use Rattle.std.proofs.Common.{◌≡◌, ◌≢◌, ◌<◌, ◌≤◌, ◌∙◌, ℕ, zero, suc, refl, sym, ap, inl, inr, arith}
-use Rattle.std.proofs.Common.{Option, Some, None, is_some, List}
-use Rattle.std.proofs.Common.{length, length-set, map, replicate}
-use Rattle.std.specs.Prelude.{unwrap_or}
-use Rattle.std.specs.List.{slice_index_or, slice_set}
+use Rattle.std.proofs.Common.{Option, Some, None, is_some, List, length, length-set, map, replicate}
+use Rattle.std.proofs.Common.{unwrap_or, get_or-set_other, get_or-set_same}
 use Rattle.std.proofs.lemmas.Bool.{cases_eq, cases_lt}
-use Rattle.std.proofs.lemmas.List.{get_or-map, get_or-replicate, get_or-set_other, get_or-set_same}
-use Rattle.std.proofs.lemmas.List.{get_or_default, get_or_past, length-map, length-replicate, same_lists}
+use Rattle.std.proofs.lemmas.List.{get_or-map, get_or-replicate, get_or_default, get_or_past}
+use Rattle.std.proofs.lemmas.List.{length-map, length-replicate, same_lists}
 use Rattle.std.proofs.lemmas.List.FromFn.{get_or-map-range_with_len, length-map-range_with_len}
 use Rattle.std.proofs.lemmas.Option.{unwrap_or-slice_get}
+use Rattle.std.specs.List.{slice_index_or, slice_set}
 use Rattle.aeth_base.proofs.Lists.{slice_get-slice_set_other, slice_get-slice_set_same}
 use Rattle.aeth_base.specs.Marks.{bit_of}
-use Rattle.aeth_clocked.specs.Wires.{flit_on}
-use Rattle.aeth_clocked.specs.declared.flit.Flit.{Flit}
+use Rattle.aeth_clocked.specs.{Wires.flit_on, declared.flit.Flit.Flit}
 use Rattle.aeth_clocked.proofs.ClearLemmas.{flit_on-replicate}
 use Rattle.aeth_router.specs.Onward.{Arrival, CameFrom, Nothing, One, Several, arrival_at}
 use Rattle.aeth_router.specs.Onward.{arrival_of, arrivals_of, arrived, carried}

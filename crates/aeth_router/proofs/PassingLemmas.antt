@@ -1,10 +1,8 @@
 -- Laws of what components send on of the flits that they have.
-use Rattle.std.proofs.Common.{◌≡◌, ◌∙◌, ◌%◌, ℕ, Bool, true, false, refl, sym}
-use Rattle.std.proofs.Common.{List, Option, Some, None, map}
-use Rattle.std.specs.Prelude.{◌==◌, if◌then◌else◌, option_and_then, option_map, position}
-use Rattle.std.proofs.lemmas.Bool.{eq-eqb, eqb-true}
-use Rattle.aeth_clocked.specs.declared.flit.Flit.{Flit}
-use Rattle.aeth_clocked.specs.Wires.{flit_on}
+use Rattle.std.proofs.Common.{◌≡◌, ◌∙◌, ◌%◌, ℕ, Bool, true, false, refl, sym, List, Option, Some}
+use Rattle.std.proofs.Common.{None, map, ◌==◌, if◌then◌else◌, option_and_then, option_map, position}
+use Rattle.std.proofs.Common.{eq-eqb, eqb-true}
+use Rattle.aeth_clocked.specs.{declared.flit.Flit.Flit, Wires.flit_on}
 use Rattle.aeth_router.specs.Part.{outputs_of}
 use Rattle.aeth_router.specs.Passing.{IsSole, passed}
 use Rattle.aeth_router.specs.Ports.{flits_for, hopped, sole, toward}

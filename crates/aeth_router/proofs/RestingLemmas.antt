@@ -1,18 +1,15 @@
 -- When a router, a stage, or a component of any kind rests.
-use Rattle.std.proofs.Common.{◌≡◌, ◌↔◌, ◌∙◌, ℕ, sym, ap}
-use Rattle.std.proofs.Common.{List, length, map, replicate, Option, None}
-use Rattle.aeth_clocked.specs.Resting.{HasNoFlit, RestsDrive, RestsLatch}
-use Rattle.aeth_clocked.specs.Wires.{flit_on}
-use Rattle.aeth_clocked.specs.declared.flit.Flit.{Flit}
+use Rattle.std.proofs.Common.{◌≡◌, ◌↔◌, ◌∙◌, ℕ, sym, ap, List, length, map, replicate, Option, None}
+use Rattle.aeth_clocked.specs.{Resting.HasNoFlit, Resting.RestsDrive, Resting.RestsLatch}
+use Rattle.aeth_clocked.specs.{Wires.flit_on, declared.flit.Flit.Flit}
 use Rattle.aeth_clocked.proofs.WiresLemmas.{HasNoFlit-one}
 use Rattle.aeth_ni.specs.Component.{interface_after, interface_emit, interface_outputs}
 use Rattle.aeth_ni.specs.Interface.{InterfaceState}
 use Rattle.aeth_router.specs.Part.{after_of, emit_of, outputs_of}
-use Rattle.aeth_router.specs.Router.{RouterState, emitted_on, is_among}
-use Rattle.aeth_router.specs.Router.{router_absorb, router_after, router_emit}
-use Rattle.aeth_router.specs.Router.{router_inputs, router_outputs}
-use Rattle.aeth_router.specs.Stage.{StageState, stage_absorb, stage_after, stage_emit}
-use Rattle.aeth_router.specs.Stage.{stage_inputs, stage_outputs}
+use Rattle.aeth_router.specs.Router.{RouterState, emitted_on, is_among, router_absorb, router_after}
+use Rattle.aeth_router.specs.Router.{router_emit, router_inputs, router_outputs}
+use Rattle.aeth_router.specs.Stage.{StageState, stage_absorb, stage_after, stage_emit, stage_inputs}
+use Rattle.aeth_router.specs.Stage.{stage_outputs}
 use Rattle.aeth_router.specs.TableRouter.{TableRouterState, table_absorb, table_after, table_emit}
 use Rattle.aeth_router.specs.TableRouter.{table_inputs, table_outputs}
 use Rattle.aeth_router.specs.declared.part.Part.{Part}

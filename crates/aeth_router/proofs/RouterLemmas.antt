@@ -1,10 +1,8 @@
 -- Laws of routers: what they emit on a link, and what they hold.
-use Rattle.std.proofs.Common.{◌≡◌, ℕ, refl}
-use Rattle.std.proofs.Common.{List, Option, Some, slice_get}
+use Rattle.std.proofs.Common.{◌≡◌, ℕ, refl, List, Option, Some, slice_get}
 use Rattle.aeth_clocked.specs.declared.flit.Flit.{Flit}
-use Rattle.aeth_router.specs.Ports.{flits_for, sole}
-use Rattle.aeth_router.specs.Router.{AreDistinctLinks, emitted_on}
-use Rattle.aeth_router.proofs.LinkLemmas.{position-at}
+use Rattle.aeth_router.{specs.Ports.flits_for, specs.Ports.sole, specs.Router.AreDistinctLinks}
+use Rattle.aeth_router.{specs.Router.emitted_on, proofs.LinkLemmas.position-at}
 
 -- A link has what its port carries.
 pub emitted_on-port : (outgoing : List ℕ) (held : List (Option Flit)) (port link : ℕ)

@@ -1,14 +1,10 @@
 -- What rows make of the table of a router.
-use Rattle.std.proofs.Common.{◌≡◌, ◌<◌, ◌∙◌, ◌+◌, ◌*◌, ℕ, zero, suc, refl, sym, ap, subst}
-use Rattle.std.proofs.Common.{inl, inr, arith, eqb-true, true, List, [], ◌∷◌, length, replicate}
-use Rattle.std.proofs.Common.{take, get_or, set}
-use Rattle.std.proofs.Common.{Option, Some, None}
-use Rattle.std.specs.Prelude.{◌==◌, ◌&&◌, if◌then◌else◌, fold}
-use Rattle.std.proofs.lemmas.Bool.{cases_Bool, eq-eqb}
-use Rattle.std.proofs.lemmas.List.{get_or-set_other, get_or-set_same, length-replicate, length-set}
-use Rattle.std.proofs.lemmas.List.{take_more}
-use Rattle.std.proofs.lemmas.List.Sums.{fold_push}
-use Rattle.std.proofs.lemmas.Nat.{same_from_place}
+use Rattle.std.proofs.Common.{◌≡◌, ◌<◌, ◌∙◌, ◌+◌, ◌*◌, ℕ, zero, suc, refl, sym, ap, subst, inl, inr}
+use Rattle.std.proofs.Common.{arith, eqb-true, true, List, [], ◌∷◌, length, replicate, take, get_or}
+use Rattle.std.proofs.Common.{set, Option, Some, None, ◌==◌, ◌&&◌, if◌then◌else◌, fold, eq-eqb}
+use Rattle.std.proofs.Common.{get_or-set_other, get_or-set_same, length-set}
+use Rattle.std.proofs.lemmas.{Bool.cases_Bool, List.length-replicate, List.take_more}
+use Rattle.std.proofs.lemmas.{List.Sums.fold_push, Nat.same_from_place}
 use Rattle.aeth_base.specs.declared.ids.LinkId.{LinkId}
 use Rattle.aeth_router.specs.Rows.{AreRowsFor, IsRowFor, is_at, is_for, link_in, with_row}
 use Rattle.aeth_router.specs.Rows.{with_table, without_entries}

@@ -1,13 +1,11 @@
 -- Rows in the order of routers: those of one stand side by side.
-use Rattle.std.proofs.Common.{◌≡◌, ◌≤◌, ◌<◌, ◌∙◌, ◌==◌, ◌-◌, ◌+◌, ℕ, zero, suc, All, Bool, List, [], ◌∷◌, ap, arith}
-use Rattle.std.proofs.Common.{cond, drop, filter, fold, get_or, inl, inr, length, refl, subst, sym, take, true, false}
-use Rattle.std.specs.Prelude.{nat_le, nat_lt, Some}
-use Rattle.std.specs.List.{AllWithin}
-use Rattle.std.specs.List.Sorted.{IsNonDecreasingBy, IsPartitionPoint}
-use Rattle.std.proofs.lemmas.Bool.{cases_Bool}
-use Rattle.std.proofs.lemmas.List.{get_or_default, get_or-take, length-drop, length-take, take_all, take_more}
-use Rattle.std.proofs.lemmas.List.Sorted.{IsNonDecreasingBy-push}
-use Rattle.std.proofs.lemmas.Bool.Decides.{nat_tests}
+use Rattle.std.proofs.Common.{◌≡◌, ◌≤◌, ◌<◌, ◌∙◌, ◌==◌, ◌-◌, ◌+◌, ℕ, zero, suc, All, Bool, List, []}
+use Rattle.std.proofs.Common.{◌∷◌, ap, arith, cond, drop, filter, fold, get_or, inl, inr, length}
+use Rattle.std.proofs.Common.{refl, subst, sym, take, true, false, nat_le, nat_lt, Some}
+use Rattle.std.proofs.Common.{get_or-take, length-drop, length-take, take_all}
+use Rattle.std.proofs.lemmas.Bool.{cases_Bool, Decides.nat_tests}
+use Rattle.std.proofs.lemmas.List.{get_or_default, take_more, Sorted.IsNonDecreasingBy-push}
+use Rattle.std.specs.List.{AllWithin, Sorted.IsNonDecreasingBy, Sorted.IsPartitionPoint}
 use Rattle.aeth_base.specs.declared.ids.RouterId.{RouterId}
 use Rattle.aeth_router.specs.Rows.{is_for, with_row, with_table, without_entries}
 use Rattle.aeth_router.specs.TableRouter.{TableRouterState, with_entry}

@@ -1,21 +1,19 @@
 -- What the ports of a router with a table send on.
-use Rattle.std.proofs.Common.{◌≡◌, ◌≢◌, ◌<◌, ◌≤◌, ◌+◌, ◌∙◌, ℕ, refl, sym, ap}
-use Rattle.std.proofs.Common.{inl, inr, arith, Bool, true, false, List, length}
-use Rattle.std.proofs.Common.{slice_get, Option, Some, None, ◌*◌}
-use Rattle.std.specs.Prelude.{if◌then◌else◌, slice_set}
+use Rattle.std.proofs.Common.{◌≡◌, ◌≢◌, ◌<◌, ◌≤◌, ◌+◌, ◌∙◌, ℕ, refl, sym, ap, inl, inr, arith, Bool}
+use Rattle.std.proofs.Common.{true, false, List, length, slice_get, Option, Some, None, ◌*◌}
+use Rattle.std.proofs.Common.{if◌then◌else◌, slice_set, get_or-set_other, get_or-set_same}
+use Rattle.std.proofs.Common.{length-set}
 use Rattle.std.proofs.lemmas.Bool.{cases_Bool, cases_eq}
-use Rattle.std.proofs.lemmas.List.{get_or-set_other, get_or-set_same, length-set}
 use Rattle.std.proofs.lemmas.Option.{same_Some, slice_get_within}
 use Rattle.aeth_base.specs.declared.ids.LinkId.{LinkId}
 use Rattle.aeth_clocked.specs.declared.flit.Flit.{Flit}
 use Rattle.aeth_router.specs.Onward.{Adds, Arrival, Nothing, arrival_at, arrived}
 use Rattle.aeth_router.specs.Router.{AreDistinctLinks}
 use Rattle.aeth_router.specs.Single.{AreSingle, IsAlone, IsTableNoted, is_from, is_sent_by}
-use Rattle.aeth_router.specs.TableRouter.{IsTableRouter, TableRouterState, sent_on}
-use Rattle.aeth_router.specs.TableRouter.{place_from, with_entry}
-use Rattle.aeth_router.proofs.LinkLemmas.{place-of, position-at}
-use Rattle.aeth_router.proofs.RowLemmas.{entry-other, entry-same}
-use Rattle.aeth_router.proofs.TableLemmas.{sent_on-port}
+use Rattle.aeth_router.specs.TableRouter.{IsTableRouter, TableRouterState, sent_on, place_from}
+use Rattle.aeth_router.specs.TableRouter.{with_entry}
+use Rattle.aeth_router.proofs.{LinkLemmas.place-of, LinkLemmas.position-at, RowLemmas.entry-other}
+use Rattle.aeth_router.proofs.{RowLemmas.entry-same, TableLemmas.sent_on-port}
 
 -- To this link has come what is sent, if anything is, and to no other.
 pub record Reaches (link : ℕ) (sent : Option Flit) (old new : List Arrival) : Type 0 where

@@ -1,20 +1,16 @@
 -- Laws of what is sent where just one of some senders sends.
 use Rattle.std.proofs.Common.{◌≡◌, ◌≢◌, ◌∙◌, ℕ, true, false, refl, sym, ap, subst, inl, inr, arith}
-use Rattle.std.proofs.Common.{List, Option, Some, None, map, slice_get}
-use Rattle.std.specs.Prelude.{◌==◌, IsSome, if◌then◌else◌, option_map, unwrap_or}
-use Rattle.std.specs.Option.{option_map_or}
-use Rattle.std.proofs.lemmas.Bool.{cases_eq, cases_lt, eq-eqb}
-use Rattle.std.proofs.lemmas.Bool.Decides.{nat_tests}
+use Rattle.std.proofs.Common.{List, Option, Some, None, map, slice_get, ◌==◌, IsSome, if◌then◌else◌}
+use Rattle.std.proofs.Common.{option_map, unwrap_or, eq-eqb}
+use Rattle.std.proofs.lemmas.Bool.{cases_eq, cases_lt, Decides.nat_tests}
 use Rattle.std.proofs.lemmas.Option.{same_Some, slice_get-map, unwrap_or-slice_get}
+use Rattle.std.specs.Option.{option_map_or}
 use Rattle.aeth_base.proofs.Lists.{map-slice_get}
-use Rattle.aeth_clocked.specs.declared.flit.Flit.{Flit}
-use Rattle.aeth_clocked.specs.Wires.{flit_on}
+use Rattle.aeth_clocked.specs.{declared.flit.Flit.Flit, Wires.flit_on}
 use Rattle.aeth_header.specs.Header.{port_of}
-use Rattle.aeth_router.specs.Passing.{IsSole}
-use Rattle.aeth_router.specs.Ports.{flits_for, hopped, sole, toward}
-use Rattle.aeth_router.specs.Router.{AreDistinctLinks, is_among}
-use Rattle.aeth_router.specs.Single.{is_from}
-use Rattle.aeth_router.specs.TableRouter.{sent_from}
+use Rattle.aeth_router.specs.{Passing.IsSole, Ports.flits_for, Ports.hopped, Ports.sole}
+use Rattle.aeth_router.specs.{Ports.toward, Router.AreDistinctLinks, Router.is_among}
+use Rattle.aeth_router.specs.{Single.is_from, TableRouter.sent_from}
 use Rattle.aeth_router.proofs.LinkLemmas.{among-place, is_among-at}
 use Rattle.aeth_router.proofs.PortLemmas.{Names, flits_for-none, sole-contended, sole-from_Alone}
 use Rattle.aeth_router.proofs.PortLemmas.{toward-other, toward-same}

@@ -1,22 +1,17 @@
 -- What each turn of the loops over links of a router adds.
-use Rattle.std.proofs.Common.{◌≡◌, ◌<◌, ◌≤◌, ◌+◌, ℕ, Bool, false, refl, sym, ap, ◌∙◌, inl, inr, arith}
-use Rattle.std.proofs.Common.{eqb, ◌||◌, List, [], ◌∷◌, ◌++◌, length, map, take}
-use Rattle.std.proofs.Common.{get_or, replicate, Option, Some, None, true}
-use Rattle.std.proofs.Common.{slice_get}
-use Rattle.std.specs.Prelude.{unwrap_or}
-use Rattle.std.specs.List.{slice_set}
-use Rattle.std.proofs.lemmas.Bool.{cases_Bool, cases_eq, cases_lt, eqb-true}
-use Rattle.std.proofs.lemmas.Bool.Decides.{nat_tests}
+use Rattle.std.proofs.Common.{◌≡◌, ◌<◌, ◌≤◌, ◌+◌, ℕ, Bool, false, refl, sym, ap, ◌∙◌, inl, inr}
+use Rattle.std.proofs.Common.{arith, eqb, ◌||◌, List, [], ◌∷◌, ◌++◌, length, map, take, get_or}
+use Rattle.std.proofs.Common.{replicate, Option, Some, None, true, slice_get, unwrap_or, eqb-true}
+use Rattle.std.proofs.lemmas.Bool.{cases_Bool, cases_eq, cases_lt, Decides.nat_tests}
 use Rattle.std.proofs.lemmas.List.{get_or-replicate, length-map, length-replicate, map-append}
 use Rattle.std.proofs.lemmas.List.Folds.{list_any-append}
 use Rattle.std.proofs.lemmas.Option.{slice_get-get_or, slice_get-map, slice_get_past}
-use Rattle.std.specs.Option.{option_map}
+use Rattle.std.specs.{List.slice_set, Option.option_map}
 use Rattle.aeth_base.proofs.Lists.{same_list, slice_get-slice_set_other, slice_get-slice_set_same}
 use Rattle.aeth_base.proofs.Lists.{take-slice_get}
 use Rattle.aeth_base.specs.declared.ids.LinkId.{LinkId}
-use Rattle.aeth_clocked.specs.declared.flit.Flit.{Flit}
-use Rattle.aeth_clocked.specs.Resting.{HasNoFlit}
-use Rattle.aeth_clocked.specs.Wires.{AreLinks, Drives, flit_on}
+use Rattle.aeth_clocked.specs.{declared.flit.Flit.Flit, Resting.HasNoFlit, Wires.AreLinks}
+use Rattle.aeth_clocked.specs.{Wires.Drives, Wires.flit_on}
 use Rattle.aeth_clocked.proofs.WiresLemmas.{Drives-same, Drives-slice_set, Drives-then}
 use Rattle.aeth_router.specs.Router.{is_among, numbers_of}
 use Rattle.aeth_router.proofs.LinkLemmas.{is_among-at}

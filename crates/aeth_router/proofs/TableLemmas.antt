@@ -1,27 +1,20 @@
 -- Laws of routers with tables.
-use Rattle.std.proofs.Common.{◌≡◌, ◌<◌, ◌≤◌, ◌∙◌, ◌+◌, ◌*◌, ◌%◌, ℕ, zero, suc, refl, ap}
-use Rattle.std.proofs.Common.{inl, inr, arith, sym, true, false}
-use Rattle.std.proofs.Common.{Bool, List, [], ◌∷◌, length, map, replicate, get_or, slice_get}
-use Rattle.std.proofs.Common.{Option, Some, None}
-use Rattle.std.specs.Prelude.{◌==◌, not, option_and_then, option_map, position}
+use Rattle.std.proofs.Common.{◌≡◌, ◌<◌, ◌≤◌, ◌∙◌, ◌+◌, ◌*◌, ◌%◌, ℕ, zero, suc, refl, ap, inl, inr}
+use Rattle.std.proofs.Common.{arith, sym, true, false, Bool, List, [], ◌∷◌, length, map, replicate}
+use Rattle.std.proofs.Common.{get_or, slice_get, Option, Some, None, ◌==◌, not, option_and_then}
+use Rattle.std.proofs.Common.{option_map, position}
+use Rattle.std.proofs.lemmas.{Bool.cases_Bool, Bool.cases_lt, List.length-map}
+use Rattle.std.proofs.lemmas.{List.length-replicate, List.Sums.count_by-le-length, Nat.mul-add-lt}
 use Rattle.std.specs.List.{list_any, prefix_len}
-use Rattle.std.proofs.lemmas.Bool.{cases_Bool, cases_lt}
-use Rattle.std.proofs.lemmas.List.{length-map, length-replicate}
-use Rattle.std.proofs.lemmas.List.Sums.{count_by-le-length}
-use Rattle.std.proofs.lemmas.Nat.{mul-add-lt}
-use Rattle.aeth_base.proofs.Lists.{list_any-map}
-use Rattle.aeth_base.specs.declared.ids.LinkId.{LinkId}
-use Rattle.aeth_chip.specs.declared.node.Link.{Link}
-use Rattle.aeth_chip.specs.Nodes.{numbers_from}
+use Rattle.aeth_base.{proofs.Lists.list_any-map, specs.declared.ids.LinkId.LinkId}
+use Rattle.aeth_chip.specs.{declared.node.Link.Link, Nodes.numbers_from}
 use Rattle.aeth_chip.proofs.NodeLemmas.{length-numbers_from}
-use Rattle.aeth_clocked.specs.Wires.{AreLinks}
-use Rattle.aeth_clocked.specs.declared.flit.Flit.{Flit}
+use Rattle.aeth_clocked.specs.{Wires.AreLinks, declared.flit.Flit.Flit}
 use Rattle.aeth_router.specs.Ports.{hopped}
 use Rattle.aeth_router.specs.Router.{AreDistinctLinks, is_among, numbers_of}
 use Rattle.aeth_router.specs.TableRouter.{TableRouterState, place_from, routed, sent_from, sent_on}
 use Rattle.aeth_router.specs.TableRouter.{table_emit, table_outputs}
-use Rattle.aeth_router.proofs.LinkLemmas.{is_among-at, position-at}
-use Rattle.aeth_router.proofs.Steps.{numbers_of-got}
+use Rattle.aeth_router.proofs.{LinkLemmas.is_among-at, LinkLemmas.position-at, Steps.numbers_of-got}
 
 -- The entries of a port are within a table.
 pub entry-within : (port slot ports slots : ℕ) → port < ports → slot < slots

@@ -1,16 +1,15 @@
 -- Laws of the flits that are sent to ports, one after the other.
-use Rattle.std.proofs.Common.{◌≡◌, ◌≢◌, ◌<◌, ℕ, refl, sym, ap, ◌∙◌, inl, inr, arith}
-use Rattle.std.proofs.Common.{Bool, true, false, List, [], ◌∷◌, ◌++◌, length, length-set, get_or}
-use Rattle.std.proofs.Common.{Option, Some, None, replicate, slice_get}
-use Rattle.std.specs.Prelude.{◌==◌, option_and_then, position, if◌then◌else◌}
+use Rattle.std.proofs.Common.{◌≡◌, ◌≢◌, ◌<◌, ℕ, refl, sym, ap, ◌∙◌, inl, inr, arith, Bool, true}
+use Rattle.std.proofs.Common.{false, List, [], ◌∷◌, ◌++◌, length, length-set, get_or, Option, Some}
+use Rattle.std.proofs.Common.{None, replicate, slice_get, ◌==◌, option_and_then, position}
+use Rattle.std.proofs.Common.{if◌then◌else◌, eqb-true, append-nil}
+use Rattle.std.proofs.lemmas.Bool.{cases_eq, cases_lt}
+use Rattle.std.proofs.lemmas.List.{get_or-replicate, length-replicate, Quantifiers.position-Some}
+use Rattle.std.proofs.lemmas.Option.{get_or_from_slice_get, same_Some, slice_get-get_or}
+use Rattle.std.proofs.lemmas.Option.{slice_get_past}
 use Rattle.std.specs.List.{slice_set}
-use Rattle.std.proofs.lemmas.Bool.{cases_eq, cases_lt, eqb-true}
-use Rattle.std.proofs.lemmas.List.{append-nil, get_or-replicate, length-replicate}
-use Rattle.std.proofs.lemmas.List.Quantifiers.{position-Some}
-use Rattle.std.proofs.lemmas.Option.{get_or_from_slice_get, same_Some, slice_get-get_or, slice_get_past}
 use Rattle.aeth_base.proofs.Lists.{slice_get-slice_set_same, slice_get-slice_set_other}
-use Rattle.aeth_clocked.specs.declared.flit.Flit.{Flit}
-use Rattle.aeth_clocked.specs.Wires.{AreLinks, Drives}
+use Rattle.aeth_clocked.specs.{declared.flit.Flit.Flit, Wires.AreLinks, Wires.Drives}
 use Rattle.aeth_header.specs.Header.{next_word, port_of}
 use Rattle.aeth_router.specs.Ports.{flits_for, hopped, sole}
 use Rattle.aeth_router.specs.Router.{AreDistinctLinks, emitted_on, is_among}

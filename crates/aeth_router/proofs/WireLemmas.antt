@@ -1,20 +1,16 @@
 -- Laws of the wires between which routers stand.
-use Rattle.std.proofs.Common.{◌≡◌, ◌-◌, ℕ, refl, inl, inr, arith}
-use Rattle.std.proofs.Common.{List, [], ◌∷◌, Some, map, slice_get, true}
+use Rattle.std.proofs.Common.{◌≡◌, ◌-◌, ℕ, refl, inl, inr, arith, List, [], ◌∷◌, Some, map}
+use Rattle.std.proofs.Common.{slice_get, true}
 use Rattle.std.proofs.Math.Bool.{or-true}
-use Rattle.std.proofs.lemmas.Bool.{cases_eq}
-use Rattle.std.proofs.lemmas.Bool.Decides.{nat_tests}
-use Rattle.std.proofs.lemmas.Option.{slice_get_within}
+use Rattle.std.proofs.lemmas.{Bool.cases_eq, Bool.Decides.nat_tests, Option.slice_get_within}
 use Rattle.aeth_base.specs.declared.ids.RouterId.{RouterId}
 use Rattle.aeth_chip.specs.Nodes.{begins_at, ends_at, receives_on, sends_on}
 use Rattle.aeth_chip.specs.Wires.{HaveDelays, wire_at, wires_of}
-use Rattle.aeth_chip.specs.declared.node.Link.{Link}
-use Rattle.aeth_chip.specs.declared.node.Node.TheVariants.{Router}
+use Rattle.aeth_chip.specs.declared.node.{Link.Link, Node.TheVariants.Router}
 use Rattle.aeth_chip.proofs.WireLemmas.{wire_at-below, wires_of-split}
 use Rattle.aeth_clocked.specs.Wires.{AreLinks}
 use Rattle.aeth_router.specs.Router.{entering_wires, is_among, last_wire}
-use Rattle.aeth_router.proofs.LinkLemmas.{AreLinks-numbers_from, is_among-at}
-use Rattle.aeth_router.proofs.LinkLemmas.{passes-from_is_among}
+use Rattle.aeth_router.proofs.LinkLemmas.{AreLinks-numbers_from, is_among-at, passes-from_is_among}
 
 -- What is among images is the image of one of the numbers.
 pub map-is_among : (change : ℕ → ℕ) (numbers : List ℕ) (image : ℕ)

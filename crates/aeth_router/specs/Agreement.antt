@@ -1,13 +1,10 @@
 -- The law of latching that components owe: what a router or a stage holds then depends on its
 -- inputs alone.
 -- This project's own.
-use Rattle.std.specs.Prelude.{◌≡◌, ℕ, ◌==◌, List, [], ◌∷◌, Option, Some, None, map}
-use Rattle.std.specs.Prelude.{slice_get, unwrap_or}
-use Rattle.std.proofs.Common.{refl, ap, suc}
-use Rattle.std.proofs.lemmas.Bool.{eq-eqb}
+use Rattle.std.proofs.Common.{◌≡◌, ℕ, ◌==◌, List, [], ◌∷◌, Option, Some, None, map, slice_get}
+use Rattle.std.proofs.Common.{unwrap_or, refl, ap, suc, eq-eqb}
 use Rattle.std.proofs.lemmas.Map.Keys.{any_passes_from_place}
-use Rattle.aeth_clocked.specs.declared.flit.Flit.{Flit}
-use Rattle.aeth_clocked.specs.Wires.{AgreeOn, flit_on}
+use Rattle.aeth_clocked.specs.{declared.flit.Flit.Flit, Wires.AgreeOn, Wires.flit_on}
 use Rattle.aeth_router.specs.Router.{RouterState, is_among, router_absorb, router_inputs}
 use Rattle.aeth_router.specs.Stage.{StageState, stage_absorb, stage_inputs}
 use Rattle.aeth_router.specs.TableRouter.{TableRouterState, table_absorb, table_inputs}

@@ -6,12 +6,11 @@
 --   Adds, CameFrom      what is sent has come, and who sent it
 --
 -- That a wire to which two flits come carries neither: this project's own.
-use Rattle.std.specs.Prelude.{◌≡◌, ◌≢◌, ◌<◌, ◌^◌, ℕ, zero, suc, Option, Some, None, IsSome, List, map}
-use Rattle.std.specs.Prelude.{Bool, false, length}
+use Rattle.std.proofs.Common.{◌≡◌, ◌≢◌, ◌<◌, ◌^◌, ℕ, zero, suc, Option, Some, None, IsSome, List}
+use Rattle.std.proofs.Common.{map, Bool, false, length}
 use Rattle.std.specs.List.{range_with_len, slice_index_or}
 use Rattle.aeth_base.specs.Marks.{bit_of, room_of}
-use Rattle.aeth_clocked.specs.Wires.{flit_on}
-use Rattle.aeth_clocked.specs.declared.flit.Flit.{Flit}
+use Rattle.aeth_clocked.specs.{Wires.flit_on, declared.flit.Flit.Flit}
 
 -- What has come to a wire: nothing, one flit, or several.
 pub data Arrival : Type 0 where

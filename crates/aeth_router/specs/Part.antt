@@ -1,8 +1,7 @@
 -- The meanings of a component of any kind.
 -- This project's own.
-use Rattle.std.specs.Prelude.{ℕ, Bool, List, Option}
-use Rattle.aeth_clocked.specs.Stepped.{Meaning}
-use Rattle.aeth_clocked.specs.declared.flit.Flit.{Flit}
+use Rattle.std.proofs.Common.{ℕ, Bool, List, Option}
+use Rattle.aeth_clocked.specs.{Stepped.Meaning, declared.flit.Flit.Flit}
 use Rattle.aeth_ni.specs.Component.{interface_outputs, interface_inputs, interface_emit}
 use Rattle.aeth_ni.specs.Component.{interface_after, interface_absorb}
 use Rattle.aeth_router.specs.Router.{router_outputs, router_inputs, router_emit, router_after}
@@ -10,9 +9,9 @@ use Rattle.aeth_router.specs.Router.{router_absorb}
 use Rattle.aeth_router.specs.Stage.{stage_outputs, stage_inputs, stage_emit, stage_after}
 use Rattle.aeth_router.specs.Stage.{stage_absorb}
 use Rattle.aeth_router.specs.declared.part.Part.{Part}
+use Rattle.aeth_router.specs.declared.part.Part.TheVariants.{Interface, Router, Stage, TableRouter}
 use Rattle.aeth_router.specs.TableRouter.{table_outputs, table_inputs, table_emit, table_after}
 use Rattle.aeth_router.specs.TableRouter.{table_absorb}
-use Rattle.aeth_router.specs.declared.part.Part.TheVariants.{Interface, Router, Stage, TableRouter}
 
 -- Whether a component sends on a wire.
 abbrev pub outputs_of : Part → ℕ → Bool

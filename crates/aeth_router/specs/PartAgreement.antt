@@ -1,11 +1,10 @@
 -- The laws that a component of any kind owes.
 -- This project's own.
-use Rattle.std.specs.Prelude.{◌≡◌, ℕ, List, Option}
-use Rattle.std.proofs.Common.{ap, refl}
-use Rattle.aeth_clocked.specs.Wires.{AgreeOn}
-use Rattle.aeth_clocked.specs.declared.flit.Flit.{Flit}
+use Rattle.std.proofs.Common.{◌≡◌, ℕ, List, Option, ap, refl}
+use Rattle.aeth_clocked.specs.{Wires.AgreeOn, declared.flit.Flit.Flit}
 use Rattle.aeth_ni.specs.Agreement.{interface_absorb-agrees}
-use Rattle.aeth_router.specs.Agreement.{router_absorb-agrees, stage_absorb-agrees, table_absorb-agrees}
+use Rattle.aeth_router.specs.Agreement.{router_absorb-agrees, stage_absorb-agrees}
+use Rattle.aeth_router.specs.Agreement.{table_absorb-agrees}
 use Rattle.aeth_router.specs.declared.part.Part.{Part}
 use Rattle.aeth_router.specs.declared.part.Part.TheVariants.{Interface, Router, Stage, TableRouter}
 use Rattle.aeth_router.specs.Part.{outputs_of, inputs_of, after_of, absorb_of}

@@ -5,8 +5,8 @@
 --   IsSole      what is sent is what one of some senders sends, where just one does
 --
 -- This project's own.
-use Rattle.std.specs.Prelude.{◌≡◌, ◌≢◌, ℕ, ◌==◌, ◌%◌, if◌then◌else◌, Option, Some, None, IsSome}
-use Rattle.std.specs.Prelude.{Bool, false, option_map, true}
+use Rattle.std.proofs.Common.{◌≡◌, ◌≢◌, ℕ, ◌==◌, ◌%◌, if◌then◌else◌, Option, Some, None, IsSome}
+use Rattle.std.proofs.Common.{Bool, false, option_map, true}
 use Rattle.aeth_clocked.specs.declared.flit.Flit.{Flit}
 use Rattle.aeth_router.specs.Ports.{hopped, toward}
 use Rattle.aeth_router.specs.Single.{is_sent_by}

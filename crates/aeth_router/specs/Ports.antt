@@ -1,8 +1,7 @@
 -- What the flits that a router holds send to its output ports.
 -- Source routing by output ports: after Æthereal (2005). That a port which two flits name carries
 -- neither: this project's own.
-use Rattle.std.specs.Prelude.{ℕ, ◌==◌, if◌then◌else◌, Option, Some, None, List, [], ◌∷◌}
-use Rattle.std.specs.Prelude.{filter_map}
+use Rattle.std.proofs.Common.{ℕ, ◌==◌, if◌then◌else◌, Option, Some, None, List, [], ◌∷◌, filter_map}
 use Rattle.aeth_clocked.specs.declared.flit.Flit.{Flit}
 use Rattle.aeth_header.specs.Header.{port_of, next_word}
 

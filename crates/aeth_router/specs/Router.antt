@@ -8,18 +8,13 @@
 --   router_outputs and its kin     the meanings of a router as a component
 --
 -- Routers that forward by one hop in a cycle: after Æthereal (2005).
-use Rattle.std.specs.Prelude.{◌≡◌, ℕ, ◌-◌, ◌==◌, Bool, false, Option, Some, None, option_and_then}
-use Rattle.std.specs.Prelude.{List, length, map, replicate, slice_get, position}
+use Rattle.std.proofs.Common.{◌≡◌, ℕ, ◌-◌, ◌==◌, Bool, false, Option, Some, None, option_and_then}
+use Rattle.std.proofs.Common.{List, length, map, replicate, slice_get, position}
 use Rattle.std.specs.List.{list_any}
-use Rattle.aeth_base.specs.declared.ids.LinkId.{LinkId}
-use Rattle.aeth_base.specs.declared.ids.RouterId.{RouterId}
-use Rattle.aeth_chip.specs.Nodes.{receives_on, sends_on}
-use Rattle.aeth_chip.specs.Paths.{delay_of}
-use Rattle.aeth_chip.specs.Wires.{wire_at}
-use Rattle.aeth_chip.specs.declared.node.Link.{Link}
-use Rattle.aeth_chip.specs.declared.node.Node.TheVariants.{Router}
-use Rattle.aeth_clocked.specs.Wires.{flit_on}
-use Rattle.aeth_clocked.specs.declared.flit.Flit.{Flit}
+use Rattle.aeth_base.specs.declared.ids.{LinkId.LinkId, RouterId.RouterId}
+use Rattle.aeth_chip.specs.{Nodes.receives_on, Nodes.sends_on, Paths.delay_of, Wires.wire_at}
+use Rattle.aeth_chip.specs.{declared.node.Link.Link, declared.node.Node.TheVariants.Router}
+use Rattle.aeth_clocked.specs.{Wires.flit_on, declared.flit.Flit.Flit}
 use Rattle.aeth_router.specs.Ports.{flits_for, sole}
 
 -- A router: the numbers of the wires on which it receives, those of the links on which it sends,

@@ -6,13 +6,11 @@
 --   link_in      the link that rows have for a slot of a port of a router
 --
 -- Tables in routers: this project's own.
-use Rattle.std.specs.Prelude.{◌≡◌, ◌<◌, ℕ, ◌==◌, ◌&&◌, if◌then◌else◌, Bool, true, IsTrue}
-use Rattle.std.specs.Prelude.{Option, Some, None, List, All, length, fold, replicate}
-use Rattle.aeth_base.specs.declared.ids.LinkId.{LinkId}
-use Rattle.aeth_base.specs.declared.ids.RouterId.{RouterId}
-use Rattle.aeth_router.specs.Router.{is_among}
-use Rattle.aeth_router.specs.TableRouter.{TableRouterState, with_entry}
-use Rattle.aeth_router.specs.declared.router_row.RouterRow.{RouterRow}
+use Rattle.std.proofs.Common.{◌≡◌, ◌<◌, ℕ, ◌==◌, ◌&&◌, if◌then◌else◌, Bool, true, IsTrue, Option}
+use Rattle.std.proofs.Common.{Some, None, List, All, length, fold, replicate}
+use Rattle.aeth_base.specs.declared.ids.{LinkId.LinkId, RouterId.RouterId}
+use Rattle.aeth_router.specs.{Router.is_among, TableRouter.TableRouterState, TableRouter.with_entry}
+use Rattle.aeth_router.specs.{declared.router_row.RouterRow.RouterRow}
 
 -- Whether a row is one of the router of this number.
 abbrev pub is_for : RouterId → RouterRow → Bool

@@ -5,8 +5,8 @@
 --   IsTableNoted      what is noted of a router with a table
 --
 -- This project's own.
-use Rattle.std.specs.Prelude.{◌≡◌, ◌<◌, ℕ, ◌==◌, Bool, true, false, Option, Some, None, List, length}
-use Rattle.std.specs.Prelude.{replicate, slice_get}
+use Rattle.std.proofs.Common.{◌≡◌, ◌<◌, ℕ, ◌==◌, Bool, true, false, Option, Some, None, List}
+use Rattle.std.proofs.Common.{length, replicate, slice_get}
 use Rattle.std.specs.Option.{option_map_or}
 use Rattle.aeth_router.specs.TableRouter.{IsTableRouter, TableRouterState, entry_at}
 

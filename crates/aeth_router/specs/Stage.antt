@@ -1,9 +1,8 @@
 -- A stage: one wire behind another on a link with a delay.
 -- Pipeline stages of links: this project's own.
-use Rattle.std.specs.Prelude.{ℕ, ◌==◌, Bool, List, Option, None}
+use Rattle.std.proofs.Common.{ℕ, ◌==◌, Bool, List, Option, None}
 use Rattle.aeth_base.specs.declared.ids.LinkId.{LinkId}
-use Rattle.aeth_clocked.specs.Wires.{flit_on}
-use Rattle.aeth_clocked.specs.declared.flit.Flit.{Flit}
+use Rattle.aeth_clocked.specs.{Wires.flit_on, declared.flit.Flit.Flit}
 
 -- A stage: the wire on which it receives, the one behind it, on which it sends, and the flit or
 -- none that it holds.

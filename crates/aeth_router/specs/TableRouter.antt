@@ -9,17 +9,13 @@
 --
 -- Routers that forward by one hop in a cycle: after Æthereal (2005). Tables in routers: this
 -- project's own.
-use Rattle.std.specs.Prelude.{◌≡◌, ◌≤◌, ℕ, ◌+◌, ◌*◌, ◌%◌, ◌==◌, Bool, Option, None}
-use Rattle.std.specs.Prelude.{option_and_then, option_map, List, length, map, replicate, position}
+use Rattle.std.proofs.Common.{◌≡◌, ◌≤◌, ℕ, ◌+◌, ◌*◌, ◌%◌, ◌==◌, Bool, Option, None, option_and_then}
+use Rattle.std.proofs.Common.{option_map, List, length, map, replicate, position}
 use Rattle.std.specs.List.{slice_index_or, slice_set}
-use Rattle.aeth_base.specs.declared.ids.LinkId.{LinkId}
-use Rattle.aeth_base.specs.declared.ids.RouterId.{RouterId}
-use Rattle.aeth_chip.specs.Chip.{ChipData}
-use Rattle.aeth_chip.specs.Limits.{max_links}
-use Rattle.aeth_chip.specs.Nodes.{receives_on, sends_on}
-use Rattle.aeth_chip.specs.declared.node.Node.TheVariants.{Router}
-use Rattle.aeth_clocked.specs.Wires.{flit_on}
-use Rattle.aeth_clocked.specs.declared.flit.Flit.{Flit}
+use Rattle.aeth_base.specs.declared.ids.{LinkId.LinkId, RouterId.RouterId}
+use Rattle.aeth_chip.specs.{Chip.ChipData, Limits.max_links, Nodes.receives_on, Nodes.sends_on}
+use Rattle.aeth_chip.specs.{declared.node.Node.TheVariants.Router}
+use Rattle.aeth_clocked.specs.{Wires.flit_on, declared.flit.Flit.Flit}
 use Rattle.aeth_router.specs.Ports.{hopped}
 use Rattle.aeth_router.specs.Router.{AreDistinctLinks, entering_wires, is_among}
 

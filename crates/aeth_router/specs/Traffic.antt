@@ -1,7 +1,7 @@
 -- To which ports flits go, as a table tells it.
 -- This project's own.
-use Rattle.std.specs.Prelude.{◌≡◌, ◌<◌, ◌^◌, ℕ, Bool, false, true, Option, Some, List, [], ◌∷◌, length}
-use Rattle.std.specs.Prelude.{slice_get}
+use Rattle.std.proofs.Common.{◌≡◌, ◌<◌, ◌^◌, ℕ, Bool, false, true, Option, Some, List, [], ◌∷◌}
+use Rattle.std.proofs.Common.{length, slice_get}
 use Rattle.aeth_clocked.specs.declared.flit.Flit.{Flit}
 use Rattle.aeth_header.specs.Layout.{port_bits}
 use Rattle.aeth_router.specs.Ports.{flits_for}

@@ -1,21 +1,18 @@
 -- Entries of hops: one hop more, and one list of hops after another.
-use Rattle.std.proofs.Common.{◌≡◌, ◌<◌, ◌+◌, ◌*◌, ◌++◌, ◌∙◌, ℕ, Bool, true, false, cond}
-use Rattle.std.proofs.Common.{eqb, List, [], ◌∷◌, Option, Some, None, length, slice_get, replicate}
-use Rattle.std.proofs.Common.{append_assoc, refl, sym, ap, subst, inl, inr, arith}
-use Rattle.std.specs.Prelude.{find, option_map}
-use Rattle.std.specs.Option.{option_or}
-use Rattle.std.specs.List.{slice_set}
-use Rattle.std.proofs.lemmas.Bool.{and_from, and_parts, cases_Bool, both_ways, eq-eqb, eqb-true}
-use Rattle.std.proofs.lemmas.List.{append-nil, get_or-replicate, length-replicate}
-use Rattle.std.proofs.lemmas.List.Folds.{find-append}
+use Rattle.std.proofs.Common.{◌≡◌, ◌<◌, ◌+◌, ◌*◌, ◌++◌, ◌∙◌, ℕ, Bool, true, false, cond, eqb, List}
+use Rattle.std.proofs.Common.{[], ◌∷◌, Option, Some, None, length, slice_get, replicate}
+use Rattle.std.proofs.Common.{append_assoc, refl, sym, ap, subst, inl, inr, arith, find, option_map}
+use Rattle.std.proofs.Common.{eq-eqb, eqb-true, append-nil}
+use Rattle.std.proofs.lemmas.Bool.{and_from, and_parts, cases_Bool, both_ways}
+use Rattle.std.proofs.lemmas.List.{get_or-replicate, length-replicate, Folds.find-append}
 use Rattle.std.proofs.lemmas.Nat.{same_from_place}
 use Rattle.std.proofs.lemmas.Option.{none-some, same_Some, slice_get-get_or}
 use Rattle.std.proofs.Math.ListN.{length-set}
+use Rattle.std.specs.{Option.option_or, List.slice_set}
 use Rattle.aeth_base.proofs.Lists.{slice_get-slice_set_other, slice_get-slice_set_same}
 use Rattle.aeth_base.specs.declared.ids.LinkId.{LinkId}
-use Rattle.aeth_rtable.specs.Entries.{Adds, HasEntries}
-use Rattle.aeth_rtable.specs.Hops.{entry_at, leads_onto}
-use Rattle.aeth_rtable.specs.declared.hops.Hop.{Hop}
+use Rattle.aeth_rtable.specs.{Entries.Adds, Entries.HasEntries, Hops.entry_at, Hops.leads_onto}
+use Rattle.aeth_rtable.specs.{declared.hops.Hop.Hop}
 
 -- Where a hop comes from.
 abbrev from_of : Option Hop → Option LinkId

@@ -1,32 +1,24 @@
 -- Hops of grants: at which place of a path they are, and that those of one use case onto one link in
 -- one slot come from one link.
-use Rattle.std.proofs.Common.{◌≡◌, ◌+◌, ◌-◌, ◌%◌, ◌∙◌, ℕ, true, eqb, List}
-use Rattle.std.proofs.Common.{Option, Some, None, Contains, length, refl, slice_get, sym, ap, subst}
-use Rattle.std.proofs.Common.{arith}
-use Rattle.std.specs.Prelude.{find, option_map}
-use Rattle.std.specs.List.{range_with_len}
-use Rattle.std.proofs.lemmas.Bool.{and_from, and_parts, eq-eqb, eqb-true}
+use Rattle.std.proofs.Common.{◌≡◌, ◌+◌, ◌-◌, ◌%◌, ◌∙◌, ℕ, true, eqb, List, Option, Some, None}
+use Rattle.std.proofs.Common.{Contains, length, refl, slice_get, sym, ap, subst, arith, find}
+use Rattle.std.proofs.Common.{option_map, eq-eqb, eqb-true}
+use Rattle.std.proofs.lemmas.Bool.{and_from, and_parts}
 use Rattle.std.proofs.lemmas.Option.{get_or_from_slice_get, none-some, same_Some, slice_get-get_or}
 use Rattle.std.proofs.lemmas.Option.{slice_get_within}
+use Rattle.std.specs.List.{range_with_len}
 use Rattle.aeth_base.specs.declared.ids.LinkId.{LinkId}
-use Rattle.aeth_base.proofs.Members.{Contains-flat_map, Contains-map, flat_map-Contains, map-Contains}
-use Rattle.aeth_base.proofs.Ranges.{Contains-range}
-use Rattle.aeth_slots.specs.SlotSet.{rotated}
-use Rattle.aeth_slots.proofs.SlotSetLemmas.{Contains-rotated}
-use Rattle.aeth_chip.specs.Chip.{ChipData}
-use Rattle.aeth_chip.specs.Paths.{offset}
-use Rattle.aeth_chip.specs.declared.node.Link.{Link}
+use Rattle.aeth_base.proofs.{Members.Contains-flat_map, Members.Contains-map}
+use Rattle.aeth_base.proofs.{Members.flat_map-Contains, Members.map-Contains, Ranges.Contains-range}
+use Rattle.aeth_slots.{specs.SlotSet.rotated, proofs.SlotSetLemmas.Contains-rotated}
+use Rattle.aeth_chip.specs.{Chip.ChipData, Paths.offset, declared.node.Link.Link}
 use Rattle.aeth_app.specs.App.{AppData}
-use Rattle.aeth_group.specs.Conflict.{Conflict}
-use Rattle.aeth_group.specs.Members.{GroupsData, has_unit}
-use Rattle.aeth_group.specs.Occupation.{holds_in, occupies}
-use Rattle.aeth_group.specs.declared.grant.Grant.{Grant}
+use Rattle.aeth_group.specs.{Conflict.Conflict, Members.GroupsData, Members.has_unit}
+use Rattle.aeth_group.specs.{Occupation.holds_in, Occupation.occupies, declared.grant.Grant.Grant}
 use Rattle.aeth_group.proofs.ConflictLemmas.{conflict-sym, conflict_from_held}
 use Rattle.aeth_group.proofs.OccupationLemmas.{occupies-Decides}
-use Rattle.aeth_plan.specs.Plan.{PlanData}
-use Rattle.aeth_plan.specs.Accepted.{IsAccepted}
-use Rattle.aeth_tables.proofs.ApartLaws.{one_item}
-use Rattle.aeth_tables.proofs.FindLaws.{found_is, found_some}
+use Rattle.aeth_plan.specs.{Plan.PlanData, Accepted.IsAccepted}
+use Rattle.aeth_tables.proofs.{ApartLaws.one_item, FindLaws.found_is, FindLaws.found_some}
 use Rattle.aeth_accepted.proofs.PathPlaces.{links-once}
 use Rattle.aeth_rtable.specs.Hops.{entry_at, hop_between, hops_at, hops_of, leads_onto, link_at}
 use Rattle.aeth_rtable.specs.declared.hops.Hop.{Hop}

@@ -1,15 +1,14 @@
 -- The use case in force in a cycle has just the connections of the stays that cover the cycle.
 use Rattle.std.proofs.Common.{◌≡◌, ◌≤◌, ◌<◌, ◌∙◌, ℕ, Bool, cond, List, [], ◌∷◌, Contains, Option}
-use Rattle.std.proofs.Common.{Some, None, refl, sym, ap, subst, inl, inr, arith}
-use Rattle.std.proofs.lemmas.Bool.{and_from, cases_Bool, cases_lt, le-ltb, lt-ltb, not_from_false}
-use Rattle.std.specs.Prelude.{IfSome, IsTrue, Ok, not}
+use Rattle.std.proofs.Common.{Some, None, refl, sym, ap, subst, inl, inr, arith, le-ltb, lt-ltb}
+use Rattle.std.proofs.Common.{IfSome, IsTrue, Ok, not}
+use Rattle.std.proofs.lemmas.Bool.{and_from, cases_Bool, cases_lt, not_from_false}
 use Rattle.aeth_base.proofs.Members.{Contains-nil}
 use Rattle.aeth_group.specs.Members.{GroupsData, group_at, has_at, is_kept}
-use Rattle.aeth_trace.specs.Spans.{SpanData}
-use Rattle.aeth_trace.specs.Switches.{are_apart, is_first_at_zero}
-use Rattle.aeth_trace.specs.declared.switches.SwitchRow.{SwitchRow}
-use Rattle.aeth_report.specs.Sessions.{Stay, Switch, closing_in, opens, stays_behind}
-use Rattle.aeth_report.specs.Sessions.{stays_from, stays_of}
+use Rattle.aeth_trace.specs.{Spans.SpanData, Switches.are_apart, Switches.is_first_at_zero}
+use Rattle.aeth_trace.specs.{declared.switches.SwitchRow.SwitchRow}
+use Rattle.aeth_report.specs.Sessions.{Stay, Switch, closing_in, opens, stays_behind, stays_from}
+use Rattle.aeth_report.specs.Sessions.{stays_of}
 use Rattle.aeth_report.proofs.SessionMeetings.{IsInTables, finish_by, in_time, rising}
 use Rattle.aeth_report.proofs.StayMeetings.{AreRising, Covers, closed_before, from_row, kept_on}
 use Rattle.aeth_report.proofs.StayMeetings.{row_opens}

@@ -1,19 +1,16 @@
 -- Lists that are given number by number: one number more, and lists whose items rise.
 use Rattle.std.proofs.Common.{◌≡◌, ◌≤◌, ◌<◌, ◌+◌, ◌-◌, ◌++◌, ◌∙◌, ℕ, zero, suc, Bool, true, false}
-use Rattle.std.proofs.Common.{cond, List, [], ◌∷◌, All, Contains, filter, get_or, length, take, sym, ap}
-use Rattle.std.proofs.Common.{inl, inr, arith, add-one}
-use Rattle.std.specs.Prelude.{flat_map}
+use Rattle.std.proofs.Common.{cond, List, [], ◌∷◌, All, Contains, filter, get_or, length, take, sym}
+use Rattle.std.proofs.Common.{ap, inl, inr, arith, add-one, flat_map, append-nil}
+use Rattle.std.proofs.lemmas.{List.flat_map_more, List.take_more, List.Concat.flat_map-append}
+use Rattle.std.proofs.lemmas.{List.Concat.flat_map-cons, List.Elements.Contains-append_cases}
+use Rattle.std.proofs.lemmas.{List.Elements.filter-append, List.FromFn.get_or-range_with_len}
+use Rattle.std.proofs.lemmas.{List.FromFn.length-range_with_len, Option.slice_get-get_or}
 use Rattle.std.specs.List.{AllPairs, range_with_len}
-use Rattle.std.proofs.lemmas.List.{append-nil, flat_map_more, take_more}
-use Rattle.std.proofs.lemmas.List.Concat.{flat_map-append, flat_map-cons}
-use Rattle.std.proofs.lemmas.List.Elements.{Contains-append_cases, filter-append}
-use Rattle.std.proofs.lemmas.List.FromFn.{get_or-range_with_len, length-range_with_len}
-use Rattle.std.proofs.lemmas.Option.{slice_get-get_or}
 use Rattle.aeth_base.proofs.Members.{Contains-here, Contains-slice_get, Contains-there}
 use Rattle.aeth_base.proofs.Members.{flat_map-Contains}
 use Rattle.aeth_base.proofs.Ranges.{range_with_len-more}
-use Rattle.aeth_slots.specs.SlotSet.{Ascends}
-use Rattle.aeth_slots.proofs.Ascending.{Ascends-bounds}
+use Rattle.aeth_slots.{specs.SlotSet.Ascends, proofs.Ascending.Ascends-bounds}
 
 -- What is given of the numbers from 0 on, and of the next one.
 pub pushed_more : {X : Type 0} (f : ℕ → List X) (i : ℕ) (start out new : List X)

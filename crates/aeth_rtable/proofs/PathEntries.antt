@@ -3,10 +3,8 @@ use Rattle.std.proofs.Common.{◌≡◌, ◌≤◌, ◌<◌, ◌+◌, ◌-◌, �
 use Rattle.std.proofs.Common.{slice_get, sym, ap, inl, inr, arith}
 use Rattle.std.proofs.lemmas.Bool.{cases_lt}
 use Rattle.std.proofs.lemmas.Option.{same_Some, slice_get-get_or, slice_get_within}
-use Rattle.aeth_base.specs.declared.ids.LinkId.{LinkId}
-use Rattle.aeth_base.proofs.Members.{All-slice_get}
-use Rattle.aeth_chip.specs.Chip.{ChipData, IsChip}
-use Rattle.aeth_chip.specs.Paths.{delay_of, offset}
+use Rattle.aeth_base.{specs.declared.ids.LinkId.LinkId, proofs.Members.All-slice_get}
+use Rattle.aeth_chip.specs.{Chip.ChipData, Chip.IsChip, Paths.delay_of, Paths.offset}
 use Rattle.aeth_chip.proofs.OffsetLemmas.{delay_of-range, offset-more, offset-zero}
 use Rattle.aeth_chip.proofs.WireLemmas.{wire_at-apart}
 use Rattle.aeth_router.specs.Router.{last_wire}

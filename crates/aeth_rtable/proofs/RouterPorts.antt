@@ -1,14 +1,11 @@
 -- The ports of a router, as a chip tells its outgoing links.
 use Rattle.std.proofs.Common.{◌≡◌, ◌≤◌, ◌<◌, ◌∙◌, ℕ, List, get_or, length, map, sym, ap, arith}
-use Rattle.std.specs.Prelude.{slice_index}
+use Rattle.std.proofs.Common.{slice_index}
 use Rattle.std.proofs.lemmas.List.{get_or-map, length-map}
 use Rattle.std.proofs.lemmas.Option.{slice_get-get_or, slice_get_within}
-use Rattle.aeth_base.specs.declared.ids.LinkId.{LinkId}
-use Rattle.aeth_base.specs.declared.ids.RouterId.{RouterId}
-use Rattle.aeth_chip.specs.Chip.{ChipData, IsChip}
-use Rattle.aeth_chip.specs.Limits.{max_ports}
-use Rattle.aeth_chip.specs.Nodes.{begins_at, sends_on}
-use Rattle.aeth_chip.specs.declared.node.Node.TheVariants.{Router}
+use Rattle.aeth_base.specs.declared.ids.{LinkId.LinkId, RouterId.RouterId}
+use Rattle.aeth_chip.specs.{Chip.ChipData, Chip.IsChip, Limits.max_ports, Nodes.begins_at}
+use Rattle.aeth_chip.specs.{Nodes.sends_on, declared.node.Node.TheVariants.Router}
 use Rattle.aeth_chip.proofs.NodeLemmas.{length-numbers_from, sends_on-found}
 
 module _ (chip : ChipData) (router : RouterId) (links : List LinkId)

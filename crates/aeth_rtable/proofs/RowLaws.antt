@@ -1,22 +1,16 @@
 -- Which rows there are by some hops, and that they ascend.
-use Rattle.std.proofs.Common.{◌≡◌, ◌<◌, ◌∙◌, ℕ, List, [], Option, Some, None, Contains}
-use Rattle.std.proofs.Common.{length, sym, ap, subst, inl, inr, arith}
-use Rattle.std.specs.Prelude.{slice_index}
+use Rattle.std.proofs.Common.{◌≡◌, ◌<◌, ◌∙◌, ℕ, List, [], Option, Some, None, Contains, length, sym}
+use Rattle.std.proofs.Common.{ap, subst, inl, inr, arith, slice_index}
 use Rattle.std.specs.List.{AllPairs, range_with_len}
-use Rattle.aeth_base.specs.declared.ids.LinkId.{LinkId}
-use Rattle.aeth_base.specs.declared.ids.RouterId.{RouterId}
+use Rattle.aeth_base.specs.declared.ids.{LinkId.LinkId, RouterId.RouterId}
 use Rattle.aeth_base.proofs.Members.{Contains-cases, Contains-flat_map, Contains-here, Contains-nil}
 use Rattle.aeth_base.proofs.Members.{flat_map-Contains}
 use Rattle.aeth_base.proofs.Ranges.{Contains-range, range-Contains}
-use Rattle.aeth_chip.specs.Chip.{ChipData}
-use Rattle.aeth_chip.specs.Nodes.{sends_on}
-use Rattle.aeth_chip.specs.declared.node.Node.TheVariants.{Router}
-use Rattle.aeth_rtable.specs.Hops.{entry_at}
-use Rattle.aeth_rtable.specs.Rows.{rows_by, rows_of_port, rows_of_router, rows_with}
-use Rattle.aeth_rtable.specs.RouterTables.{IsBefore}
-use Rattle.aeth_rtable.specs.declared.hops.Hop.{Hop}
-use Rattle.aeth_router.specs.declared.router_row.RouterRow.{RouterRow}
+use Rattle.aeth_chip.specs.{Chip.ChipData, Nodes.sends_on, declared.node.Node.TheVariants.Router}
+use Rattle.aeth_rtable.specs.{Hops.entry_at, Rows.rows_by, Rows.rows_of_port, Rows.rows_of_router}
+use Rattle.aeth_rtable.specs.{Rows.rows_with, RouterTables.IsBefore, declared.hops.Hop.Hop}
 use Rattle.aeth_rtable.proofs.Lists.{Climbs, climbs-flat_map, pairs_rise}
+use Rattle.aeth_router.specs.declared.router_row.RouterRow.{RouterRow}
 
 -- The row of an entry is at its place.
 record IsAt (router : RouterId) (port slot : ℕ) (entry : Option LinkId) (row : RouterRow)

@@ -1,36 +1,25 @@
 -- Each row of a use case by an accepted plan is within the table of its router, and its link enters
 -- the router.
-use Rattle.std.proofs.Common.{◌≡◌, ◌<◌, ◌+◌, ◌∙◌, ℕ, suc, true, List, Some, Contains}
-use Rattle.std.proofs.Common.{get_or, length, slice_get, take, sym, ap, subst, arith}
-use Rattle.std.specs.Prelude.{count_by}
-use Rattle.std.proofs.lemmas.Bool.{eqb-true}
+use Rattle.std.proofs.Common.{◌≡◌, ◌<◌, ◌+◌, ◌∙◌, ℕ, suc, true, List, Some, Contains, get_or}
+use Rattle.std.proofs.Common.{length, slice_get, take, sym, ap, subst, arith, count_by, eqb-true}
 use Rattle.std.proofs.lemmas.Option.{same_Some, slice_get-get_or}
-use Rattle.aeth_base.specs.declared.ids.LinkId.{LinkId}
-use Rattle.aeth_base.specs.declared.ids.RouterId.{RouterId}
+use Rattle.aeth_base.specs.declared.ids.{LinkId.LinkId, RouterId.RouterId}
 use Rattle.aeth_base.proofs.Members.{All-slice_get, Contains-list_any, Contains-slice_get}
-use Rattle.aeth_chip.specs.Chip.{ChipData}
-use Rattle.aeth_chip.specs.Nodes.{ends_at, receives_on}
-use Rattle.aeth_chip.specs.Paths.{to_in, to_of}
-use Rattle.aeth_chip.specs.declared.node.Link.{Link}
-use Rattle.aeth_chip.specs.declared.node.Node.TheVariants.{Ni, Router}
+use Rattle.aeth_chip.specs.{Chip.ChipData, Nodes.ends_at, Nodes.receives_on, Paths.to_in}
+use Rattle.aeth_chip.specs.{Paths.to_of, declared.node.Link.Link, declared.node.Node.TheVariants.Ni}
+use Rattle.aeth_chip.specs.{declared.node.Node.TheVariants.Router}
 use Rattle.aeth_chip.proofs.JoinedLaws.{joined-next}
 use Rattle.aeth_chip.proofs.NodeLemmas.{numbers_from-at, same_node-refl, same_node-true}
 use Rattle.aeth_chip.proofs.NodeLemmas.{sends_on-found}
 use Rattle.aeth_app.specs.App.{AppData}
-use Rattle.aeth_check.proofs.PlanParts.{are_placed}
-use Rattle.aeth_check.specs.Calls.{IsPlaced}
+use Rattle.aeth_check.{proofs.PlanParts.are_placed, specs.Calls.IsPlaced}
 use Rattle.aeth_group.specs.Members.{groups_of}
-use Rattle.aeth_plan.specs.Plan.{PlanData}
-use Rattle.aeth_plan.specs.Design.{IsDesign}
-use Rattle.aeth_router.specs.Router.{is_among}
-use Rattle.aeth_router.specs.Rows.{AreRowsFor, IsRowFor, is_for}
-use Rattle.aeth_router.specs.TableRouter.{new_table_router}
-use Rattle.aeth_router.specs.declared.router_row.RouterRow.{RouterRow}
+use Rattle.aeth_plan.specs.{Plan.PlanData, Design.IsDesign}
+use Rattle.aeth_router.specs.{Router.is_among, Rows.AreRowsFor, Rows.IsRowFor, Rows.is_for}
+use Rattle.aeth_router.specs.{TableRouter.new_table_router, declared.router_row.RouterRow.RouterRow}
 use Rattle.aeth_tables.proofs.ListLaws.{all_from_places, all_has}
-use Rattle.aeth_rtable.specs.Hops.{hops_in}
-use Rattle.aeth_rtable.specs.Rows.{router_rows}
-use Rattle.aeth_rtable.proofs.RowLaws.{IsRow, is_row}
-use Rattle.aeth_rtable.proofs.TableLaws.{design_tables}
+use Rattle.aeth_rtable.specs.{Hops.hops_in, Rows.router_rows}
+use Rattle.aeth_rtable.proofs.{RowLaws.IsRow, RowLaws.is_row, TableLaws.design_tables}
 
 module _ (links : List Link) where
   -- A link that ends at a router is one of those that enter it.

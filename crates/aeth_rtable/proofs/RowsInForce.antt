@@ -1,49 +1,32 @@
 -- Where a session that is in the tables goes on to a wire, the rows in force send the wire on from
 -- where it goes.
-use Rattle.std.proofs.Common.{◌≡◌, ◌<◌, ◌+◌, ◌%◌, ◌∙◌, ℕ, suc, eqb, List, All}
-use Rattle.std.proofs.Common.{Contains, Some, length, slice_get, refl, sym, ap}
-use Rattle.std.specs.Prelude.{option_map}
+use Rattle.std.proofs.Common.{◌≡◌, ◌<◌, ◌+◌, ◌%◌, ◌∙◌, ℕ, suc, eqb, List, All, Contains, Some}
+use Rattle.std.proofs.Common.{length, slice_get, refl, sym, ap, option_map, eq-eqb}
+use Rattle.std.proofs.lemmas.{Bool.and_from, List.Elements.All-from_recursion}
+use Rattle.std.proofs.lemmas.{Option.slice_get_within}
 use Rattle.std.specs.List.{position_or_len}
-use Rattle.std.proofs.lemmas.Bool.{and_from, eq-eqb}
-use Rattle.std.proofs.lemmas.List.Elements.{All-from_recursion}
-use Rattle.std.proofs.lemmas.Option.{slice_get_within}
-use Rattle.aeth_base.specs.declared.ids.LinkId.{LinkId}
-use Rattle.aeth_base.specs.declared.ids.RouterId.{RouterId}
-use Rattle.aeth_chip.specs.Nodes.{sends_on}
-use Rattle.aeth_chip.specs.declared.node.Link.{Link}
-use Rattle.aeth_chip.specs.declared.node.Node.TheVariants.{Router}
-use Rattle.aeth_chip.specs.Wires.{HaveDelays}
+use Rattle.aeth_base.specs.declared.ids.{LinkId.LinkId, RouterId.RouterId}
+use Rattle.aeth_chip.specs.{Nodes.sends_on, declared.node.Link.Link}
+use Rattle.aeth_chip.specs.{declared.node.Node.TheVariants.Router, Wires.HaveDelays}
 use Rattle.aeth_chip.proofs.WireLemmas.{have_delays}
 use Rattle.aeth_group.specs.Members.{group_at, groups_of, has_at}
 use Rattle.aeth_group.specs.declared.grant.Grant.{Grant}
-use Rattle.aeth_report.specs.Design.{grant_at}
-use Rattle.aeth_report.specs.Flows.{Run}
-use Rattle.aeth_report.specs.Routes.{port_of}
-use Rattle.aeth_report.proofs.GrantLemmas.{grant_at-is}
-use Rattle.aeth_report.proofs.StaysAlone.{at-Contains}
+use Rattle.aeth_report.specs.{Design.grant_at, Flows.Run, Routes.port_of}
+use Rattle.aeth_report.proofs.{GrantLemmas.grant_at-is, StaysAlone.at-Contains}
 use Rattle.aeth_tables.proofs.ListLaws.{has_place}
-use Rattle.aeth_refinement.specs.Fabric.{AtRouter, IsInTables}
-use Rattle.aeth_refinement.specs.Tables.{IsPassing}
-use Rattle.aeth_router.specs.Router.{last_wire}
-use Rattle.aeth_router.specs.Rows.{link_in}
+use Rattle.aeth_refinement.specs.{Fabric.AtRouter, Fabric.IsInTables, Tables.IsPassing}
+use Rattle.aeth_router.specs.{Router.last_wire, Rows.link_in}
+use Rattle.aeth_router.specs.{declared.router_row.RouterRow.RouterRow}
 use Rattle.aeth_accepted.specs.Inputs.{AreAccepted, Inputs, design_of, run_of}
 use Rattle.aeth_accepted.proofs.SoundRuns.{grant_is}
-use Rattle.aeth_fabric.specs.Fabric.{Placed, fabric_of, placed_at}
-use Rattle.aeth_fabric.specs.Fabric.{stays_in}
+use Rattle.aeth_fabric.specs.Fabric.{Placed, fabric_of, placed_at, stays_in}
 use Rattle.aeth_fabric.specs.Wiring.{start_of}
-use Rattle.aeth_fabric.proofs.ApartWires.{covered, slot_place}
-use Rattle.aeth_fabric.proofs.Numbers.{placed-there}
-use Rattle.aeth_fabric.proofs.PathWires.{wires-place}
-use Rattle.aeth_fabric.proofs.WiredLemmas.{port_at}
-use Rattle.aeth_fabric.proofs.WireEnds.{starts_at-node}
-use Rattle.aeth_rtable.specs.InForce.{rows_in_force, use_in_force}
-use Rattle.aeth_rtable.specs.RouterTables.{AreTables}
-use Rattle.aeth_rtable.specs.Sending.{from_at, from_rows}
-use Rattle.aeth_router.specs.declared.router_row.RouterRow.{RouterRow}
-use Rattle.aeth_rtable.proofs.InForce.{stay-used}
-use Rattle.aeth_rtable.proofs.PathEntries.{enters-at}
-use Rattle.aeth_rtable.proofs.SendingLaws.{row-link}
-use Rattle.aeth_rtable.proofs.TableLaws.{design_tables}
+use Rattle.aeth_fabric.proofs.{ApartWires.covered, ApartWires.slot_place, Numbers.placed-there}
+use Rattle.aeth_fabric.proofs.{PathWires.wires-place, WiredLemmas.port_at, WireEnds.starts_at-node}
+use Rattle.aeth_rtable.specs.{InForce.rows_in_force, InForce.use_in_force, RouterTables.AreTables}
+use Rattle.aeth_rtable.specs.{Sending.from_at, Sending.from_rows}
+use Rattle.aeth_rtable.proofs.{InForce.stay-used, PathEntries.enters-at, SendingLaws.row-link}
+use Rattle.aeth_rtable.proofs.{TableLaws.design_tables}
 
 module _ (inputs : Inputs) (accepted : AreAccepted inputs) (t : ℕ) where
   abbrev run : Run

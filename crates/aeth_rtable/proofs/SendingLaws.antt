@@ -1,19 +1,16 @@
 -- From which wire the rows of all routers' tables send a wire on: by the one row for its port and the
 -- slot.
-use Rattle.std.proofs.Common.{◌≡◌, ◌⊎◌, ◌∙◌, ◌&&◌, ℕ, Bool, true, cond, eqb, List, []}
-use Rattle.std.proofs.Common.{◌∷◌, Option, Some, None, Contains, get_or, refl, sym, ap, subst, inl}
-use Rattle.std.proofs.Common.{inr, arith}
-use Rattle.std.specs.Prelude.{fold, if◌then◌else◌}
-use Rattle.std.specs.List.{AllPairs}
-use Rattle.std.proofs.lemmas.Bool.{and_from, and_parts, cases_Bool, cases_lt, eq-eqb, eqb-true}
+use Rattle.std.proofs.Common.{◌≡◌, ◌⊎◌, ◌∙◌, ◌&&◌, ℕ, Bool, true, cond, eqb, List, [], ◌∷◌, Option}
+use Rattle.std.proofs.Common.{Some, None, Contains, get_or, refl, sym, ap, subst, inl, inr, arith}
+use Rattle.std.proofs.Common.{fold, if◌then◌else◌, eq-eqb, eqb-true}
+use Rattle.std.proofs.lemmas.Bool.{and_from, and_parts, cases_Bool, cases_lt}
 use Rattle.std.proofs.lemmas.Option.{get_or_from_slice_get, none-some, same_Some, slice_get_within}
-use Rattle.aeth_base.specs.declared.ids.LinkId.{LinkId}
-use Rattle.aeth_base.specs.declared.ids.RouterId.{RouterId}
+use Rattle.std.specs.List.{AllPairs}
+use Rattle.aeth_base.specs.declared.ids.{LinkId.LinkId, RouterId.RouterId}
 use Rattle.aeth_base.proofs.Members.{Contains-cases, Contains-here, Contains-nil, Contains-there}
 use Rattle.aeth_base.proofs.Members.{slice_get-Contains}
 use Rattle.aeth_rtable.specs.RouterTables.{IsBefore}
-use Rattle.aeth_router.specs.Rows.{is_at, link_in}
-use Rattle.aeth_router.specs.declared.router_row.RouterRow.{RouterRow}
+use Rattle.aeth_router.specs.{Rows.is_at, Rows.link_in, declared.router_row.RouterRow.RouterRow}
 
 -- A row before another isn't of the same slot of the same port.
 before-apart : (a b : RouterRow) → IsBefore a b → a.router.0 ≡ b.router.0 → a.port ≡ b.port

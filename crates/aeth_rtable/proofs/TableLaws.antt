@@ -1,32 +1,26 @@
 -- The rows of a use case by an accepted plan are the tables of its routers.
-use Rattle.std.proofs.Common.{◌≡◌, ◌<◌, ◌+◌, ◌∙◌, ℕ, List, Some, Contains, length}
-use Rattle.std.proofs.Common.{slice_get, sym, ap, subst, arith}
+use Rattle.std.proofs.Common.{◌≡◌, ◌<◌, ◌+◌, ◌∙◌, ℕ, List, Some, Contains, length, slice_get, sym}
+use Rattle.std.proofs.Common.{ap, subst, arith}
 use Rattle.std.proofs.lemmas.Nat.{mod_below}
 use Rattle.std.proofs.lemmas.Option.{get_or_from_slice_get, slice_get-get_or, slice_get_within}
 use Rattle.aeth_base.specs.declared.ids.LinkId.{LinkId}
 use Rattle.aeth_base.proofs.Members.{Contains-filter, Contains-flat_map, filter-Contains}
 use Rattle.aeth_base.proofs.Members.{flat_map-Contains}
-use Rattle.aeth_chip.specs.Chip.{ChipData, IsChip, IsNode}
-use Rattle.aeth_chip.specs.Nodes.{sends_on}
-use Rattle.aeth_chip.specs.Paths.{offset}
-use Rattle.aeth_chip.specs.declared.node.Node.{Node}
-use Rattle.aeth_chip.specs.declared.node.Node.TheVariants.{Router}
+use Rattle.aeth_chip.specs.{Chip.ChipData, Chip.IsChip, Chip.IsNode, Nodes.sends_on, Paths.offset}
+use Rattle.aeth_chip.specs.{declared.node.Node.Node, declared.node.Node.TheVariants.Router}
 use Rattle.aeth_chip.proofs.NodeLemmas.{same_node-true, sends_on-found}
 use Rattle.aeth_app.specs.App.{AppData}
 use Rattle.aeth_group.specs.Members.{GroupsData, groups_of, has_unit}
 use Rattle.aeth_group.specs.declared.grant.Grant.{Grant}
-use Rattle.aeth_plan.specs.Plan.{IsGrantOf, IsPlanOf, PlanData}
-use Rattle.aeth_plan.specs.Accepted.{IsAccepted}
-use Rattle.aeth_plan.specs.Design.{IsDesign}
+use Rattle.aeth_plan.specs.{Plan.IsGrantOf, Plan.IsPlanOf, Plan.PlanData, Accepted.IsAccepted}
+use Rattle.aeth_plan.specs.{Design.IsDesign}
 use Rattle.aeth_tables.proofs.ListLaws.{all_has_by}
-use Rattle.aeth_rtable.specs.Hops.{entry_at, grants_in, hops_in, hops_of}
-use Rattle.aeth_rtable.specs.Rows.{router_rows, rows_by}
-use Rattle.aeth_rtable.specs.RouterTables.{AreTables, IsEntered}
-use Rattle.aeth_rtable.specs.declared.hops.Hop.{Hop}
-use Rattle.aeth_router.specs.declared.router_row.RouterRow.{RouterRow}
-use Rattle.aeth_rtable.proofs.HopLaws.{IsUsed, entry-from, has_hop, is_hop, one_from}
-use Rattle.aeth_rtable.proofs.HopLaws.{some_entry}
+use Rattle.aeth_rtable.specs.{Hops.entry_at, Hops.grants_in, Hops.hops_in, Hops.hops_of}
+use Rattle.aeth_rtable.specs.{Rows.router_rows, Rows.rows_by, RouterTables.AreTables}
+use Rattle.aeth_rtable.specs.{RouterTables.IsEntered, declared.hops.Hop.Hop}
+use Rattle.aeth_rtable.proofs.HopLaws.{IsUsed, entry-from, has_hop, is_hop, one_from, some_entry}
 use Rattle.aeth_rtable.proofs.RowLaws.{has_row, is_row, link_of, rows_rise}
+use Rattle.aeth_router.specs.declared.router_row.RouterRow.{RouterRow}
 
 module _ (chip : ChipData) (app : AppData) (groups : GroupsData) (plan : PlanData)
     (is_chip : IsChip chip) (of : IsPlanOf chip app groups plan)

@@ -1,48 +1,34 @@
 -- The rows in force in a cycle are the entries of just the sessions that are in the tables.
-use Rattle.std.proofs.Common.{◌≡◌, ◌≤◌, ◌<◌, ◌+◌, ◌%◌, ◌∙◌, ℕ, suc, true, eqb, List}
-use Rattle.std.proofs.Common.{Contains, Option, Some, None, length, slice_get, refl, sym, ap, subst}
-use Rattle.std.proofs.Common.{arith}
-use Rattle.std.specs.Prelude.{IfSome, option_map, unwrap_or}
+use Rattle.std.proofs.Common.{◌≡◌, ◌≤◌, ◌<◌, ◌+◌, ◌%◌, ◌∙◌, ℕ, suc, true, eqb, List, Contains}
+use Rattle.std.proofs.Common.{Option, Some, None, length, slice_get, refl, sym, ap, subst, arith}
+use Rattle.std.proofs.Common.{IfSome, option_map, unwrap_or, eq-eqb, eqb-true}
+use Rattle.std.proofs.lemmas.{Bool.and_parts, List.Folds.list_any_at, Option.get_or_from_slice_get}
+use Rattle.std.proofs.lemmas.{Option.same_Some, Option.slice_get_within}
 use Rattle.std.specs.List.{list_any}
-use Rattle.std.proofs.lemmas.Bool.{and_parts, eq-eqb, eqb-true}
 use Rattle.aeth_base.proofs.Lists.{option_map-some}
-use Rattle.std.proofs.lemmas.List.Folds.{list_any_at}
-use Rattle.std.proofs.lemmas.Option.{get_or_from_slice_get, same_Some, slice_get_within}
-use Rattle.aeth_base.specs.declared.ids.LinkId.{LinkId}
-use Rattle.aeth_base.specs.declared.ids.RouterId.{RouterId}
+use Rattle.aeth_base.specs.declared.ids.{LinkId.LinkId, RouterId.RouterId}
 use Rattle.aeth_chip.specs.Nodes.{sends_on}
-use Rattle.aeth_chip.specs.declared.node.Link.{Link}
-use Rattle.aeth_chip.specs.declared.node.Node.TheVariants.{Router}
+use Rattle.aeth_chip.specs.declared.node.{Link.Link, Node.TheVariants.Router}
 use Rattle.aeth_group.specs.Members.{group_at, groups_of, has_at, has_unit}
 use Rattle.aeth_group.specs.declared.grant.Grant.{Grant}
 use Rattle.aeth_group.proofs.MemberLemmas.{connections-groups_of}
-use Rattle.aeth_report.specs.Design.{grant_at}
-use Rattle.aeth_report.specs.Flows.{Run}
-use Rattle.aeth_report.specs.Routes.{port_of}
-use Rattle.aeth_report.specs.Sessions.{Switch, close_by}
+use Rattle.aeth_report.specs.{Design.grant_at, Flows.Run, Routes.port_of, Sessions.Switch}
+use Rattle.aeth_report.specs.{Sessions.close_by}
 use Rattle.aeth_report.proofs.SessionMeetings.{IsInTables as IsStayInTables, finish_by}
 use Rattle.aeth_tables.proofs.ListLaws.{place_in}
-use Rattle.aeth_refinement.specs.Fabric.{AtRouter}
-use Rattle.aeth_refinement.specs.Tables.{AreEntries, HasPassing}
-use Rattle.aeth_router.specs.Router.{last_wire}
-use Rattle.aeth_router.specs.Rows.{link_in}
+use Rattle.aeth_refinement.specs.{Fabric.AtRouter, Tables.AreEntries, Tables.HasPassing}
+use Rattle.aeth_router.specs.{Router.last_wire, Rows.link_in}
 use Rattle.aeth_accepted.specs.Inputs.{AreAccepted, Inputs, design_of, run_of}
-use Rattle.aeth_accepted.proofs.GivenGrants.{connection-known}
-use Rattle.aeth_accepted.proofs.OwnGrants.{channel_of, grant-own}
-use Rattle.aeth_accepted.proofs.SoundRuns.{grant_is}
-use Rattle.aeth_fabric.specs.Fabric.{Placed, entered_by, fabric_of, flow_in, no_placed, placed_at}
-use Rattle.aeth_fabric.specs.Fabric.{placed_of, stays_in}
-use Rattle.aeth_fabric.specs.Paths.{wires_along}
-use Rattle.aeth_fabric.specs.Wiring.{start_of}
-use Rattle.aeth_fabric.proofs.ApartWires.{past}
-use Rattle.aeth_fabric.proofs.Numbers.{numbered}
-use Rattle.aeth_rtable.specs.InForce.{rows_in_force, use_in_force}
-use Rattle.aeth_rtable.specs.Sending.{from_rows}
-use Rattle.aeth_rtable.proofs.InForce.{used-covered}
-use Rattle.aeth_rtable.proofs.PathEntries.{at-enters}
-use Rattle.aeth_rtable.proofs.SendingLaws.{link-row}
-use Rattle.aeth_rtable.proofs.RowsInForce.{from-starts, links_known, row-there, sent}
-use Rattle.aeth_rtable.proofs.RowsInForce.{tables}
+use Rattle.aeth_accepted.proofs.{GivenGrants.connection-known, OwnGrants.channel_of}
+use Rattle.aeth_accepted.proofs.{OwnGrants.grant-own, SoundRuns.grant_is}
+use Rattle.aeth_fabric.specs.{Fabric.Placed, Fabric.entered_by, Fabric.fabric_of, Fabric.flow_in}
+use Rattle.aeth_fabric.specs.{Fabric.no_placed, Fabric.placed_at, Fabric.placed_of, Fabric.stays_in}
+use Rattle.aeth_fabric.specs.{Paths.wires_along, Wiring.start_of}
+use Rattle.aeth_fabric.proofs.{ApartWires.past, Numbers.numbered}
+use Rattle.aeth_rtable.specs.{InForce.rows_in_force, InForce.use_in_force, Sending.from_rows}
+use Rattle.aeth_rtable.proofs.{InForce.used-covered, PathEntries.at-enters, SendingLaws.link-row}
+use Rattle.aeth_rtable.proofs.{RowsInForce.from-starts, RowsInForce.links_known}
+use Rattle.aeth_rtable.proofs.{RowsInForce.row-there, RowsInForce.sent, RowsInForce.tables}
 
 module _ (run : Run) (placed : Placed) (t : ℕ) where
   -- A session whose stay is in the tables is in them itself, until the end of the run at least.

@@ -3,10 +3,9 @@
 --
 --   HasEntries      entries of some hops
 --   Adds      a change by more hops
-use Rattle.std.specs.Prelude.{◌≡◌, ◌<◌, ◌+◌, ◌*◌, ◌++◌, ℕ, List, Option, Some, length, slice_get}
+use Rattle.std.proofs.Common.{◌≡◌, ◌<◌, ◌+◌, ◌*◌, ◌++◌, ℕ, List, Option, Some, length, slice_get}
 use Rattle.aeth_base.specs.declared.ids.LinkId.{LinkId}
-use Rattle.aeth_rtable.specs.Hops.{entry_at}
-use Rattle.aeth_rtable.specs.declared.hops.Hop.{Hop}
+use Rattle.aeth_rtable.specs.{Hops.entry_at, declared.hops.Hop.Hop}
 
 -- The entries, so many for each link, are those of some hops.
 abbrev pub HasEntries : ℕ → List Hop → List (Option LinkId) → Type 0

@@ -4,16 +4,13 @@
 --   grants_in, hops_in      those of a use case
 --   entry_at      from which link flits come onto a link in a slot
 -- Slots and links: after Æthereal (2005). Hops: this project's own.
-use Rattle.std.specs.Prelude.{ℕ, ◌-◌, ◌==◌, ◌&&◌, Bool, List, Option, filter, find, flat_map, length}
-use Rattle.std.specs.Prelude.{map, option_map}
+use Rattle.std.proofs.Common.{ℕ, ◌-◌, ◌==◌, ◌&&◌, Bool, List, Option, filter, find, flat_map}
+use Rattle.std.proofs.Common.{length, map, option_map}
 use Rattle.std.specs.List.{range_with_len, slice_index_or}
 use Rattle.aeth_base.specs.declared.ids.LinkId.{LinkId}
 use Rattle.aeth_slots.specs.SlotSet.{rotated}
-use Rattle.aeth_chip.specs.Chip.{ChipData}
-use Rattle.aeth_chip.specs.Paths.{offset}
-use Rattle.aeth_chip.specs.declared.node.Link.{Link}
-use Rattle.aeth_group.specs.Members.{GroupsData, has_unit}
-use Rattle.aeth_group.specs.declared.grant.Grant.{Grant}
+use Rattle.aeth_chip.specs.{Chip.ChipData, Paths.offset, declared.node.Link.Link}
+use Rattle.aeth_group.specs.{Members.GroupsData, Members.has_unit, declared.grant.Grant.Grant}
 use Rattle.aeth_plan.specs.Plan.{PlanData}
 use Rattle.aeth_rtable.specs.declared.hops.Hop.{Hop}
 

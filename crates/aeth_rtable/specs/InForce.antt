@@ -3,10 +3,9 @@
 --   use_from, use_in_force      the use case in force, from one on, and over a list of switches
 --   rows_in_force      its rows
 -- Tables in routers: this project's own.
-use Rattle.std.specs.Prelude.{ℕ, nat_lt, List, [], ◌∷◌, if◌then◌else◌}
+use Rattle.std.proofs.Common.{ℕ, nat_lt, List, [], ◌∷◌, if◌then◌else◌}
 use Rattle.aeth_group.specs.Members.{groups_of}
-use Rattle.aeth_trace.specs.Spans.{SpanData}
-use Rattle.aeth_trace.specs.declared.switches.SwitchRow.{SwitchRow}
+use Rattle.aeth_trace.specs.{Spans.SpanData, declared.switches.SwitchRow.SwitchRow}
 use Rattle.aeth_report.specs.Sessions.{close_by}
 use Rattle.aeth_accepted.specs.Inputs.{Inputs, run_of}
 use Rattle.aeth_rtable.specs.Rows.{router_rows}

@@ -3,12 +3,11 @@
 --   head_line, numbers_words, hop_line      the first line, and that of a row
 --   route_text      the text
 -- This project's own.
-use Rattle.std.specs.Prelude.{ℕ, List, [], ◌∷◌, ◌++◌, codes, decimal, map}
+use Rattle.std.proofs.Common.{ℕ, List, [], ◌∷◌, ◌++◌, codes, decimal, map}
 use Rattle.std.specs.List.{join_with_byte}
 use Rattle.aeth_app.specs.App.{AppData}
 use Rattle.aeth_plan.specs.Plan.{name_at}
-use Rattle.aeth_text.specs.Limits.{space}
-use Rattle.aeth_text.specs.Spelling.{text_of_lines}
+use Rattle.aeth_text.specs.{Limits.space, Spelling.text_of_lines}
 use Rattle.aeth_trace.specs.Switches.{use_names}
 use Rattle.aeth_router.specs.declared.router_row.RouterRow.{RouterRow}
 

@@ -4,16 +4,12 @@
 --   IsBefore      one row comes before another
 --   AreTables      rows are the tables of all routers
 -- Slots and links: after Æthereal (2005). Tables in routers: this project's own.
-use Rattle.std.specs.Prelude.{◌≡◌, ◌+◌, ◌%◌, ◌<◌, ◌⊎◌, ℕ, IsTrue, List, Some, Contains, slice_get}
+use Rattle.std.proofs.Common.{◌≡◌, ◌+◌, ◌%◌, ◌<◌, ◌⊎◌, ℕ, IsTrue, List, Some, Contains, slice_get}
 use Rattle.std.specs.List.{AllPairs}
 use Rattle.aeth_base.specs.declared.ids.LinkId.{LinkId}
-use Rattle.aeth_chip.specs.Chip.{ChipData}
-use Rattle.aeth_chip.specs.Nodes.{sends_on}
-use Rattle.aeth_chip.specs.Paths.{offset}
-use Rattle.aeth_chip.specs.declared.node.Link.{Link}
-use Rattle.aeth_chip.specs.declared.node.Node.TheVariants.{Router}
-use Rattle.aeth_group.specs.Members.{GroupsData, has_unit}
-use Rattle.aeth_group.specs.declared.grant.Grant.{Grant}
+use Rattle.aeth_chip.specs.{Chip.ChipData, Nodes.sends_on, Paths.offset, declared.node.Link.Link}
+use Rattle.aeth_chip.specs.{declared.node.Node.TheVariants.Router}
+use Rattle.aeth_group.specs.{Members.GroupsData, Members.has_unit, declared.grant.Grant.Grant}
 use Rattle.aeth_plan.specs.Plan.{PlanData}
 use Rattle.aeth_router.specs.declared.router_row.RouterRow.{RouterRow}
 

@@ -4,17 +4,13 @@
 --   rows_of_port, rows_of_router, rows_by      those of a port, of a router, of all routers
 --   router_rows      those of a use case
 -- This project's own.
-use Rattle.std.specs.Prelude.{ℕ, List, [], ◌∷◌, Option, Some, None, flat_map, length, slice_index}
+use Rattle.std.proofs.Common.{ℕ, List, [], ◌∷◌, Option, Some, None, flat_map, length, slice_index}
 use Rattle.std.specs.List.{range_with_len}
-use Rattle.aeth_base.specs.declared.ids.LinkId.{LinkId}
-use Rattle.aeth_base.specs.declared.ids.RouterId.{RouterId}
-use Rattle.aeth_chip.specs.Chip.{ChipData}
-use Rattle.aeth_chip.specs.Nodes.{sends_on}
-use Rattle.aeth_chip.specs.declared.node.Node.TheVariants.{Router}
+use Rattle.aeth_base.specs.declared.ids.{LinkId.LinkId, RouterId.RouterId}
+use Rattle.aeth_chip.specs.{Chip.ChipData, Nodes.sends_on, declared.node.Node.TheVariants.Router}
 use Rattle.aeth_group.specs.Members.{GroupsData}
 use Rattle.aeth_plan.specs.Plan.{PlanData}
-use Rattle.aeth_rtable.specs.Hops.{entry_at, hops_in}
-use Rattle.aeth_rtable.specs.declared.hops.Hop.{Hop}
+use Rattle.aeth_rtable.specs.{Hops.entry_at, Hops.hops_in, declared.hops.Hop.Hop}
 use Rattle.aeth_router.specs.declared.router_row.RouterRow.{RouterRow}
 
 -- The row of an entry; none where there is no entry.

@@ -1,24 +1,17 @@
 -- Laws of an allocation with whose plan a task goes on.
-use Rattle.std.proofs.Common.{◌≡◌, ◌≢◌, ◌∙◌, List, [], ◌∷◌, Result, Ok, Err, IfOk, ap, refl}
-use Rattle.std.proofs.Common.{subst, sym}
-use Rattle.aeth_alloc.specs.Allocation.{OutcomeData, allocation}
-use Rattle.aeth_alloc.specs.Prices.{prices_of}
-use Rattle.aeth_alloc.specs.declared.outcome.Refused.{Refused}
+use Rattle.std.proofs.Common.{◌≡◌, ◌≢◌, ◌∙◌, List, [], ◌∷◌, Result, Ok, Err, IfOk, ap, refl, subst}
+use Rattle.std.proofs.Common.{sym}
+use Rattle.aeth_alloc.specs.{Allocation.OutcomeData, Allocation.allocation, Prices.prices_of}
+use Rattle.aeth_alloc.specs.{declared.outcome.Refused.Refused}
 use Rattle.aeth_app.specs.App.{AppData, IsApp}
 use Rattle.aeth_chip.specs.Chip.{ChipData, IsChip}
 use Rattle.aeth_group.specs.Members.{GroupsData, groups_of}
-use Rattle.aeth_plan.specs.Plan.{IsPlanOf, PlanData}
-use Rattle.aeth_plan.specs.Accepted.{IsAccepted}
-use Rattle.aeth_plan.specs.Design.{IsDesign}
-use Rattle.aeth_plan.specs.declared.design.Planned.{Planned}
-use Rattle.aeth_answers.specs.declared.answer.Stop.{Stop}
-use Rattle.aeth_answers.specs.declared.answer.Stop.TheVariants.{Ends}
-use Rattle.aeth_answers.specs.Job.{Job, not_granted}
-use Rattle.aeth_answers.specs.Places.{Files}
-use Rattle.aeth_answers.specs.Stop.{Judges}
-use Rattle.aeth_answers.specs.Task.{IsAnswer, Task}
-use Rattle.aeth_answers.proofs.FileLemmas.{IsAnswer-not_granted}
-use Rattle.aeth_answers.proofs.TaskLemmas.{IsAfter-same}
+use Rattle.aeth_plan.specs.{Plan.IsPlanOf, Plan.PlanData, Accepted.IsAccepted, Design.IsDesign}
+use Rattle.aeth_plan.specs.{declared.design.Planned.Planned}
+use Rattle.aeth_answers.specs.{declared.answer.Stop.Stop, declared.answer.Stop.TheVariants.Ends}
+use Rattle.aeth_answers.specs.{Job.Job, Job.not_granted, Places.Files, Stop.Judges, Task.IsAnswer}
+use Rattle.aeth_answers.specs.{Task.Task}
+use Rattle.aeth_answers.proofs.{FileLemmas.IsAnswer-not_granted, TaskLemmas.IsAfter-same}
 use Rattle.aeth_design_commands.specs.Allocate.{refusals_text}
 use Rattle.aeth_run_commands.specs.Demo.{on_refusals}
 

@@ -1,20 +1,15 @@
 -- The words of commands that simulate name a number of cycles within the limit.
 use Rattle.std.proofs.Common.{◌≡◌, ◌≤◌, ℕ, Bool, true, false, List, [], ◌∷◌, Option, Some, None}
-use Rattle.std.proofs.Common.{refl, if◌then◌else◌}
-use Rattle.std.specs.Prelude.{⊤, codes}
-use Rattle.std.specs.Option.{option_and_then, option_map}
-use Rattle.std.specs.Str.{bytes_eq}
-use Rattle.aeth_answers.proofs.Reading.{number_within-bounds}
-use Rattle.aeth_answers.specs.Words.{number_within}
+use Rattle.std.proofs.Common.{refl, if◌then◌else◌, codes}
+use Rattle.std.specs.{Prelude.⊤, Option.option_and_then, Option.option_map, Str.bytes_eq}
+use Rattle.aeth_answers.{proofs.Reading.number_within-bounds, specs.Words.number_within}
 use Rattle.aeth_base.specs.Limits.{max_cycles}
 use Rattle.aeth_demo.specs.Limits.{max_demo_number}
-use Rattle.aeth_run_commands.specs.Commands.{run_command}
-use Rattle.aeth_run_commands.specs.Demo.{demo_command}
-use Rattle.aeth_run_commands.specs.TracedDesigns.{files_named}
-use Rattle.aeth_run_commands.specs.Simulate.{simulated_run, turn_of}
-use Rattle.aeth_run_commands.specs.declared.command.RunCommand.{RunCommand}
+use Rattle.aeth_run_commands.specs.{Commands.run_command, Demo.demo_command}
+use Rattle.aeth_run_commands.specs.{TracedDesigns.files_named, Simulate.simulated_run}
+use Rattle.aeth_run_commands.specs.{Simulate.turn_of, declared.command.RunCommand.RunCommand}
+use Rattle.aeth_run_commands.specs.{declared.simulate.SimulatedRun.SimulatedRun}
 use Rattle.aeth_run_commands.specs.declared.command.RunCommand.TheVariants as command
-use Rattle.aeth_run_commands.specs.declared.simulate.SimulatedRun.{SimulatedRun}
 
 -- Where a command simulates, its cycles are within the limit.
 abbrev pub IsShort : Option RunCommand → Type 0

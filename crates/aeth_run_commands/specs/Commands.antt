@@ -1,14 +1,12 @@
 -- The commands that play runs, and what each asks for.
 -- This project's own.
-use Rattle.std.specs.Prelude.{ℕ, ◌≤◌, List, Option, None, codes, if◌then◌else◌}
-use Rattle.std.specs.Option.{option_map}
-use Rattle.std.specs.Str.{bytes_eq}
+use Rattle.std.proofs.Common.{ℕ, ◌≤◌, List, Option, None, codes, if◌then◌else◌}
+use Rattle.std.specs.{Option.option_map, Str.bytes_eq}
 use Rattle.aeth_answers.specs.Task.{Task}
 use Rattle.aeth_demo.specs.Limits.{max_demo_number}
-use Rattle.aeth_run_commands.specs.Demo.{demo_command, demo_task}
-use Rattle.aeth_run_commands.specs.Outcomes.{Outcomes}
-use Rattle.aeth_run_commands.specs.Simulate.{HasCycles, simulate_task, simulated_run}
-use Rattle.aeth_run_commands.specs.declared.command.RunCommand.{RunCommand}
+use Rattle.aeth_run_commands.specs.{Demo.demo_command, Demo.demo_task, Outcomes.Outcomes}
+use Rattle.aeth_run_commands.specs.{Simulate.HasCycles, Simulate.simulate_task}
+use Rattle.aeth_run_commands.specs.{Simulate.simulated_run, declared.command.RunCommand.RunCommand}
 use Rattle.aeth_run_commands.specs.declared.command.RunCommand.TheVariants as command
 
 -- The command on a run that a name and the words behind it are, if they are one.

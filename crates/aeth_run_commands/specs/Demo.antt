@@ -1,38 +1,27 @@
 -- `demo N`: a large run that is made from a number, summed up. Its texts are judged as if they were
 -- files.
 -- This project's own.
-use Rattle.std.specs.Prelude.{ℕ, ◌++◌, List, [], ◌∷◌, length, sum, sum_by, Option, Some, None, codes}
-use Rattle.std.specs.Prelude.{decimal}
+use Rattle.std.proofs.Common.{ℕ, ◌++◌, List, [], ◌∷◌, length, sum, sum_by, Option, Some, None}
+use Rattle.std.proofs.Common.{codes, decimal}
 use Rattle.aeth_accepted.specs.Inputs.{Inputs}
-use Rattle.aeth_alloc.specs.Allocation.{allocation}
-use Rattle.aeth_alloc.specs.Prices.{prices_of}
-use Rattle.aeth_alloc.specs.declared.outcome.Refused.{Refused}
-use Rattle.aeth_app.specs.App.{AppData}
-use Rattle.aeth_app.specs.AppFile.{app_of}
-use Rattle.aeth_chip.specs.Chip.{ChipData}
-use Rattle.aeth_chip.specs.ChipFile.{chip_of}
+use Rattle.aeth_alloc.specs.{Allocation.allocation, Prices.prices_of}
+use Rattle.aeth_alloc.specs.{declared.outcome.Refused.Refused}
+use Rattle.aeth_app.specs.{App.AppData, AppFile.app_of}
+use Rattle.aeth_chip.specs.{Chip.ChipData, ChipFile.chip_of}
 use Rattle.aeth_demo.specs.Limits.{demo_cycles, max_demo_number}
 use Rattle.aeth_demo.specs.Texts.{TextsData, texts_of}
 use Rattle.aeth_group.specs.Members.{groups_of}
-use Rattle.aeth_plan.specs.Plan.{PlanData}
-use Rattle.aeth_machine.specs.RunInputs.{inputs_of}
-use Rattle.aeth_plan.specs.declared.design.Design.{Design}
-use Rattle.aeth_machine.specs.declared.traces.Traces.{Traces}
-use Rattle.aeth_report.specs.Log.{LogData}
-use Rattle.aeth_report.specs.Regular.{landings_in, offered_in}
+use Rattle.aeth_plan.specs.{Plan.PlanData, declared.design.Design.Design}
+use Rattle.aeth_machine.specs.{RunInputs.inputs_of, declared.traces.Traces.Traces, Totals.late_in}
+use Rattle.aeth_report.specs.{Log.LogData, Regular.landings_in, Regular.offered_in}
 use Rattle.aeth_tables.specs.Switching.{spans_of}
-use Rattle.aeth_trace.specs.Receivers.{receivers_of}
-use Rattle.aeth_trace.specs.Spans.{SpanData}
-use Rattle.aeth_trace.specs.Switches.{switches_of}
-use Rattle.aeth_trace.specs.Words.{words_of}
+use Rattle.aeth_trace.specs.{Receivers.receivers_of, Spans.SpanData, Switches.switches_of}
+use Rattle.aeth_trace.specs.{Words.words_of}
 use Rattle.aeth_run_commands.specs.declared.command.RunCommand.{RunCommand}
-use Rattle.aeth_run_commands.specs.declared.command.RunCommand.TheVariants as command
 use Rattle.aeth_design_commands.specs.Allocate.{refusals_text}
-use Rattle.aeth_answers.specs.Files.{judgement}
-use Rattle.aeth_answers.specs.Job.{Job, done, not_granted}
-use Rattle.aeth_answers.specs.Task.{Judging, Task, ends}
-use Rattle.aeth_machine.specs.Totals.{late_in}
-use Rattle.aeth_answers.specs.Words.{◌>>=◌, number_within}
+use Rattle.aeth_answers.specs.{Files.judgement, Job.Job, Job.done, Job.not_granted, Task.Judging}
+use Rattle.aeth_answers.specs.{Task.Task, Task.ends, Words.◌>>=◌, Words.number_within}
+use Rattle.aeth_run_commands.specs.declared.command.RunCommand.TheVariants as command
 
 -- N a number.
 abbrev pub demo_command : List (List ℕ) → Option RunCommand

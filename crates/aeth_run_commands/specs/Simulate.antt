@@ -2,18 +2,16 @@
 -- words: what a run of an accepted plan shows. The turn says in which order components take their
 -- turns; no text rests on it.
 -- This project's own.
-use Rattle.std.specs.Prelude.{ℕ, ◌≤◌, List, [], ◌∷◌, Option, Some, None}
+use Rattle.std.proofs.Common.{ℕ, ◌≤◌, List, [], ◌∷◌, Option, Some, None}
 use Rattle.aeth_accepted.specs.Inputs.{Inputs}
 use Rattle.aeth_base.specs.Limits.{max_cycles}
-use Rattle.aeth_report.specs.Log.{LogData}
-use Rattle.aeth_report.specs.LogText.{text_of}
+use Rattle.aeth_report.specs.{Log.LogData, LogText.text_of}
 use Rattle.aeth_run_commands.specs.declared.simulate.SimulatedRun.{SimulatedRun}
-use Rattle.aeth_run_files.specs.declared.runs.RunFiles.{RunFiles}
-use Rattle.aeth_answers.specs.Job.{Job, done}
 use Rattle.aeth_run_commands.specs.Limits.{max_turn}
-use Rattle.aeth_answers.specs.Task.{Task, ends}
-use Rattle.aeth_answers.specs.Words.{◌>>=◌, number_within}
 use Rattle.aeth_run_commands.specs.TracedDesigns.{files_named, traced_design, traced_inputs}
+use Rattle.aeth_run_files.specs.declared.runs.RunFiles.{RunFiles}
+use Rattle.aeth_answers.specs.{Job.Job, Job.done, Task.Task, Task.ends, Words.◌>>=◌}
+use Rattle.aeth_answers.specs.{Words.number_within}
 
 -- TURN; 0 where it is absent.
 abbrev pub turn_of : List (List ℕ) → Option ℕ

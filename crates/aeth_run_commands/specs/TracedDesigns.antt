@@ -1,9 +1,8 @@
 -- A chip and an application with an accepted plan and traces, which commands on runs read together.
 -- This project's own.
-use Rattle.std.specs.Prelude.{ℕ, List, Option, Some}
+use Rattle.std.proofs.Common.{ℕ, List, Option, Some}
 use Rattle.aeth_accepted.specs.Inputs.{Inputs}
-use Rattle.aeth_answers.specs.Task.{Judging}
-use Rattle.aeth_answers.specs.Words.{◌>>=◌, file_name_of}
+use Rattle.aeth_answers.specs.{Task.Judging, Words.◌>>=◌, Words.file_name_of}
 use Rattle.aeth_files.specs.Files.{design_file}
 use Rattle.aeth_run_files.specs.Runs.{RunData, data_of, run_files}
 use Rattle.aeth_run_files.specs.declared.runs.RunFiles.{RunFiles}

@@ -4,15 +4,10 @@ use Rattle.aeth_accepted.specs.Inputs.{AreAccepted}
 use Rattle.aeth_app.specs.App.{IsAppOf}
 use Rattle.aeth_base.specs.Limits.{max_cycles}
 use Rattle.aeth_group.specs.Members.{groups_of}
-use Rattle.aeth_plan.specs.Plan.{PlanData}
-use Rattle.aeth_plan.specs.Design.{IsDesign}
+use Rattle.aeth_plan.specs.{Plan.PlanData, Design.IsDesign, declared.design.Design.Design}
 use Rattle.aeth_tables.specs.Switching.{spans_of}
-use Rattle.aeth_trace.specs.Receivers.{AreReceiversOf}
-use Rattle.aeth_trace.specs.Switches.{AreSwitchesOf}
-use Rattle.aeth_trace.specs.Words.{AreWordsOf}
-use Rattle.aeth_machine.specs.RunInputs.{inputs_of}
-use Rattle.aeth_plan.specs.declared.design.Design.{Design}
-use Rattle.aeth_machine.specs.declared.traces.Traces.{Traces}
+use Rattle.aeth_trace.specs.{Receivers.AreReceiversOf, Switches.AreSwitchesOf, Words.AreWordsOf}
+use Rattle.aeth_machine.specs.{RunInputs.inputs_of, declared.traces.Traces.Traces}
 
 -- Inputs are accepted whose plan is accepted, and whose traces were read for them.
 pub are_accepted : (design : Design) (plan : PlanData) (traces : Traces) (cycles : ℕ)

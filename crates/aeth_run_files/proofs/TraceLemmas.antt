@@ -1,13 +1,9 @@
 -- Laws of three traces that are judged one after the other.
 use Rattle.std.proofs.Common.{List, Ok, Err, refl}
-use Rattle.aeth_trace.specs.declared.receivers.PullRow.{PullRow}
-use Rattle.aeth_trace.specs.declared.switches.SwitchRow.{SwitchRow}
-use Rattle.aeth_trace.specs.declared.words.WordRow.{WordRow}
+use Rattle.aeth_trace.specs.declared.{receivers.PullRow.PullRow, switches.SwitchRow.SwitchRow}
+use Rattle.aeth_trace.specs.declared.{words.WordRow.WordRow}
 use Rattle.aeth_machine.specs.declared.traces.Traces.{Traces}
-use Rattle.aeth_answers.specs.declared.answer.Stop.{Stop}
-use Rattle.aeth_answers.specs.Places.{Files}
-use Rattle.aeth_answers.specs.Stop.{Judges}
-use Rattle.aeth_answers.specs.Task.{Judging}
+use Rattle.aeth_answers.specs.{declared.answer.Stop.Stop, Places.Files, Stop.Judges, Task.Judging}
 use Rattle.aeth_answers.proofs.FileLemmas.{Judges-made, Judges-stopped, Judges-then}
 
 -- The traces of these rows.

@@ -1,13 +1,11 @@
 -- Runs: a plan that is accepted for a chip and an application, and then the traces for it.
 -- This project's own.
 use Rattle.aeth_group.specs.Members.{groups_of}
-use Rattle.aeth_plan.specs.Plan.{PlanData}
-use Rattle.aeth_plan.specs.declared.design.Design.{Design}
+use Rattle.aeth_plan.specs.{Plan.PlanData, declared.design.Design.Design}
 use Rattle.aeth_machine.specs.declared.traces.Traces.{Traces}
 use Rattle.aeth_tables.specs.Switching.{spans_of}
 use Rattle.aeth_answers.specs.Task.{Judging}
-use Rattle.aeth_run_files.specs.declared.runs.Run.{Run}
-use Rattle.aeth_run_files.specs.declared.runs.RunFiles.{RunFiles}
+use Rattle.aeth_run_files.specs.declared.runs.{Run.Run, RunFiles.RunFiles}
 use Rattle.aeth_run_files.specs.TraceFiles.{traces_files}
 use Rattle.aeth_files.specs.Plans.{accepted_file}
 

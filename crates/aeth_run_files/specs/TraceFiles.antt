@@ -1,17 +1,12 @@
 -- Files of traces that a command reads and judges, one after the other: words, receivers' rows and switches.
 -- This project's own.
-use Rattle.std.specs.Prelude.{ℕ, List, codes}
+use Rattle.std.proofs.Common.{ℕ, List, codes}
 use Rattle.aeth_app.specs.App.{AppData}
-use Rattle.aeth_trace.specs.Receivers.{receivers_of}
-use Rattle.aeth_trace.specs.Spans.{SpanData}
-use Rattle.aeth_trace.specs.Switches.{switches_of}
-use Rattle.aeth_trace.specs.Words.{words_of}
-use Rattle.aeth_trace.specs.declared.receivers.PullRow.{PullRow}
-use Rattle.aeth_trace.specs.declared.switches.SwitchRow.{SwitchRow}
-use Rattle.aeth_trace.specs.declared.words.WordRow.{WordRow}
+use Rattle.aeth_trace.specs.{Receivers.receivers_of, Spans.SpanData, Switches.switches_of}
+use Rattle.aeth_trace.specs.{Words.words_of, declared.receivers.PullRow.PullRow}
+use Rattle.aeth_trace.specs.{declared.switches.SwitchRow.SwitchRow, declared.words.WordRow.WordRow}
 use Rattle.aeth_machine.specs.declared.traces.Traces.{Traces}
-use Rattle.aeth_answers.specs.Files.{judged_file}
-use Rattle.aeth_answers.specs.Task.{Judging}
+use Rattle.aeth_answers.specs.{Files.judged_file, Task.Judging}
 use Rattle.aeth_run_files.specs.declared.runs.RunFiles.{RunFiles}
 
 -- A file of words for an application.

@@ -1,13 +1,11 @@
 -- Lists that are walked one after the other: what was written last at a number, and until when what
 -- goes one after the other accepts.
-use Rattle.std.proofs.Common.{◌≡◌, ◌≤◌, ◌<◌, ◌∙◌, ℕ, suc, ◌+◌, ◌||◌, Bool, List, []}
-use Rattle.std.proofs.Common.{◌∷◌, ◌&&◌, All, filter, fold, get_or, length, map, refl, sym, ap, inl, inr}
-use Rattle.std.proofs.Common.{arith}
-use Rattle.std.specs.Prelude.{◌==◌, nat_le, nat_lt, slice_index, slice_set}
+use Rattle.std.proofs.Common.{◌≡◌, ◌≤◌, ◌<◌, ◌∙◌, ℕ, suc, ◌+◌, ◌||◌, Bool, List, [], ◌∷◌, ◌&&◌, All}
+use Rattle.std.proofs.Common.{filter, fold, get_or, length, map, refl, sym, ap, inl, inr, arith}
+use Rattle.std.proofs.Common.{◌==◌, nat_le, nat_lt, slice_index, slice_set, eqb-true, le-leb}
+use Rattle.std.proofs.Common.{le-ltb, lt-ltb, get_or-set_other, get_or-set_same, length-set}
+use Rattle.std.proofs.lemmas.Bool.{cases_Bool, cases_lt, eqb-false, lt-leb}
 use Rattle.std.specs.List.{AllPairs, list_any, zip}
-use Rattle.std.proofs.lemmas.Bool.{cases_Bool, cases_lt, eqb-false, eqb-true, le-leb, le-ltb, lt-leb}
-use Rattle.std.proofs.lemmas.Bool.{lt-ltb}
-use Rattle.std.proofs.lemmas.List.{get_or-set_other, get_or-set_same, length-set}
 
 -- Of items beside what is shown of them those that pass a test, with what is shown.
 pub shown-beside : {X Y : Type 0} (show : X → Y) (test : X → Bool) (xs : List X)

@@ -1,11 +1,8 @@
 -- Words that arrive in a cycle, among those of a channel.
 use Rattle.std.proofs.Common.{◌≡◌, ◌∙◌, ◌≤◌, ◌<◌, ◌+◌, ◌&&◌, ℕ, Bool, true, false, List, [], ◌∷◌}
-use Rattle.std.proofs.Common.{filter, length, refl, ap}
-use Rattle.std.proofs.Common.{inl, inr, arith}
-use Rattle.std.specs.Prelude.{◌==◌, nat_le, nat_lt}
-use Rattle.std.proofs.lemmas.Bool.{and_from, and_parts, and_right, cases_Bool}
-use Rattle.std.proofs.lemmas.Bool.{cases_order, eq-eqb, le-leb, le-ltb, leb-true, ltb-true}
-use Rattle.std.proofs.lemmas.Bool.{lt-ltb, ne_eqb}
+use Rattle.std.proofs.Common.{filter, length, refl, ap, inl, inr, arith, ◌==◌, nat_le, nat_lt}
+use Rattle.std.proofs.Common.{eq-eqb, le-leb, le-ltb, leb-true, ltb-true, lt-ltb, ne_eqb}
+use Rattle.std.proofs.lemmas.Bool.{and_from, and_parts, and_right, cases_Bool, cases_order}
 
 -- How many of those cycles that pass a test are before one.
 abbrev pub passed_before : (ℕ → Bool) → ℕ → List ℕ → ℕ

@@ -1,28 +1,21 @@
 -- The rows of traces in a cycle, channel by channel: words that are offered, and how receivers take.
 use Rattle.std.proofs.Common.{◌≡◌, ◌<◌, ◌∙◌, ◌+◌, ℕ, List, [], ◌∷◌, Option, Some, None, filter}
-use Rattle.std.proofs.Common.{fold}
-use Rattle.std.proofs.Common.{length, map, refl, sym, ap, inl, inr, arith}
-use Rattle.std.specs.Prelude.{◌==◌, nat_le, nat_lt, unwrap_or}
-use Rattle.std.specs.List.{last_or}
-use Rattle.std.specs.List.Sorted.{IsNonDecreasingBy}
-use Rattle.std.proofs.lemmas.Bool.{cases_lt, eqb-true, le-leb, le-ltb, lt-leb, lt-ltb}
-use Rattle.std.proofs.lemmas.List.{length-map}
-use Rattle.std.proofs.lemmas.List.Elements.{filter_agree}
-use Rattle.std.proofs.lemmas.List.Folds.{fold-map}
-use Rattle.std.proofs.lemmas.List.Sums.{fold-append}
+use Rattle.std.proofs.Common.{fold, length, map, refl, sym, ap, inl, inr, arith, ◌==◌, nat_le}
+use Rattle.std.proofs.Common.{nat_lt, unwrap_or, eqb-true, le-leb, le-ltb, lt-ltb}
+use Rattle.std.proofs.lemmas.Bool.{cases_lt, lt-leb}
+use Rattle.std.proofs.lemmas.List.{length-map, Elements.filter_agree, Folds.fold-map}
+use Rattle.std.proofs.lemmas.List.{Sums.fold-append}
+use Rattle.std.specs.List.{last_or, Sorted.IsNonDecreasingBy}
 use Rattle.aeth_base.specs.declared.ids.Channel.{Channel}
-use Rattle.aeth_trace.proofs.OrderLemmas.{rise-filter}
-use Rattle.aeth_trace.specs.Channels.{channel_number, is_channel, rows_on}
-use Rattle.aeth_trace.specs.Limits.{usual_pull}
-use Rattle.aeth_trace.specs.Receivers.{pull_at, pulls_on}
-use Rattle.aeth_trace.specs.Words.{words_on}
-use Rattle.aeth_trace.specs.declared.receivers.PullRow.{PullRow}
-use Rattle.aeth_trace.specs.declared.words.WordRow.{WordRow}
-use Rattle.aeth_accepted.specs.Inputs.{Inputs}
-use Rattle.aeth_running.proofs.ChannelNumbers.{numbers-tell}
 use Rattle.aeth_base.proofs.Filters.{filter-map, filter-swap}
-use Rattle.aeth_running.proofs.RowFilters.{filter-within, rows-by}
-use Rattle.aeth_running.specs.Network.{offers_in, takes_in}
+use Rattle.aeth_trace.proofs.OrderLemmas.{rise-filter}
+use Rattle.aeth_trace.specs.{Channels.channel_number, Channels.is_channel, Channels.rows_on}
+use Rattle.aeth_trace.specs.{Limits.usual_pull, Receivers.pull_at, Receivers.pulls_on}
+use Rattle.aeth_trace.specs.{Words.words_on, declared.receivers.PullRow.PullRow}
+use Rattle.aeth_trace.specs.{declared.words.WordRow.WordRow}
+use Rattle.aeth_accepted.specs.Inputs.{Inputs}
+use Rattle.aeth_running.{proofs.ChannelNumbers.numbers-tell, proofs.RowFilters.filter-within}
+use Rattle.aeth_running.{proofs.RowFilters.rows-by, specs.Network.offers_in, specs.Network.takes_in}
 use Rattle.aeth_stimuli.specs.Stimuli.{Offer, Take, offer_of, stimuli_of, take_of}
 
 -- Of rows within so many cycles those in one, and of these the ones of a channel, are the channel's rows

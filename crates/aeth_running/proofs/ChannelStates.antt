@@ -8,8 +8,7 @@ use Rattle.aeth_refinement.specs.Fabric.{server_at}
 use Rattle.aeth_accepted.specs.Inputs.{Inputs}
 use Rattle.aeth_fabric.specs.Fabric.{fabric_of}
 use Rattle.aeth_running.proofs.ChannelRows.{pull_before}
-use Rattle.aeth_running.specs.Network.{NetworkState}
-use Rattle.aeth_running.specs.Running.{IsLatest}
+use Rattle.aeth_running.specs.{Network.NetworkState, Running.IsLatest}
 use Rattle.aeth_stimuli.specs.Sessions.{channel_of, first_of}
 
 module _ (inputs : Inputs) where

@@ -1,43 +1,29 @@
 -- What is told of a channel is what the log of the run says.
-use Rattle.std.proofs.Common.{◌≡◌, ◌≤◌, ◌<◌, ◌∙◌, ℕ, suc, ◌*◌, List, [], ◌∷◌, Some, drop}
-use Rattle.std.proofs.Common.{filter, length, map, slice_get, refl, sym, ap, arith}
-use Rattle.std.specs.Prelude.{nat_lt, option_map, slice_index, slice_index_or}
+use Rattle.std.proofs.Common.{◌≡◌, ◌≤◌, ◌<◌, ◌∙◌, ℕ, suc, ◌*◌, List, [], ◌∷◌, Some, drop, filter}
+use Rattle.std.proofs.Common.{length, map, slice_get, refl, sym, ap, arith, nat_lt, option_map}
+use Rattle.std.proofs.Common.{slice_index, slice_index_or, ltb-true, length-append, length-drop}
+use Rattle.std.proofs.lemmas.{List.length-map, Option.same_Some, Option.slice_get-map, Simd.map-map}
 use Rattle.std.specs.List.Sorted.{IsNonDecreasingBy}
-use Rattle.std.proofs.lemmas.Bool.{ltb-true}
-use Rattle.std.proofs.lemmas.List.{length-append, length-drop, length-map}
-use Rattle.std.proofs.lemmas.Option.{same_Some, slice_get-map}
-use Rattle.std.proofs.lemmas.Simd.{map-map}
-use Rattle.aeth_base.specs.declared.ids.Channel.{Channel}
-use Rattle.aeth_base.proofs.Filters.{filter-map}
-use Rattle.aeth_trace.specs.Channels.{channel_number}
-use Rattle.aeth_trace.specs.Words.{words_on}
-use Rattle.aeth_report.specs.Flows.{Flow, flow_of, flows_on, sessions_in}
-use Rattle.aeth_report.specs.Log.{LogData, SessionData}
-use Rattle.aeth_report.specs.RunLog.{channel_log, flow_log, outside_of}
-use Rattle.aeth_report.specs.declared.session.Session.{Session}
-use Rattle.aeth_report.specs.Sound.{IsSound}
-use Rattle.aeth_report.proofs.SessionMeetings.{mapped_at}
-use Rattle.aeth_report.proofs.StaysAlone.{at-Contains}
+use Rattle.aeth_base.{specs.declared.ids.Channel.Channel, proofs.Filters.filter-map}
+use Rattle.aeth_trace.specs.{Channels.channel_number, Words.words_on}
+use Rattle.aeth_report.specs.{Flows.Flow, Flows.flow_of, Flows.flows_on, Flows.sessions_in}
+use Rattle.aeth_report.specs.{Log.LogData, Log.SessionData, RunLog.channel_log, RunLog.flow_log}
+use Rattle.aeth_report.specs.{RunLog.outside_of, declared.session.Session.Session, Sound.IsSound}
+use Rattle.aeth_report.proofs.{SessionMeetings.mapped_at, StaysAlone.at-Contains}
 use Rattle.aeth_components.specs.declared.lane.Lane.{Lane}
 use Rattle.aeth_accepted.specs.Inputs.{AreAccepted, Inputs, run_of}
-use Rattle.aeth_schedule.specs.Goings.{goings_of}
-use Rattle.aeth_schedule.specs.declared.going.Going.{Going}
-use Rattle.aeth_running.specs.FirstLog.{first_channel, first_session}
-use Rattle.aeth_stimuli.specs.Stimuli.{goings_over}
-use Rattle.aeth_running.specs.Network.{first_network, played}
-use Rattle.aeth_stimuli.specs.Loaded.{no_lane}
-use Rattle.aeth_running.specs.Running.{IsRunning}
-use Rattle.aeth_stimuli.specs.Sessions.{IsBefore, SessionGoing, as_going, going_of}
-use Rattle.aeth_running.specs.Told.{channel_told, last_lanes, session_told, sessions_told}
-use Rattle.aeth_running.proofs.InOrder.{below, passes-at}
-use Rattle.aeth_running.proofs.LastLanes.{goer-at, goings-count, told-at}
-use Rattle.aeth_running.proofs.OutsideTold.{outside-is}
-use Rattle.aeth_running.proofs.Played.{played-log}
-use Rattle.aeth_running.proofs.Replaced.{lane_before, last-lanes-are}
-use Rattle.aeth_running.proofs.SessionCycles.{accept-alone, ended-server}
-use Rattle.aeth_running.proofs.SessionTold.{session-is}
-use Rattle.aeth_running.proofs.Untils.{accepted-until}
-use Rattle.aeth_running.specs.Routing.{Routing}
+use Rattle.aeth_schedule.specs.{Goings.goings_of, declared.going.Going.Going}
+use Rattle.aeth_running.specs.{FirstLog.first_channel, FirstLog.first_session}
+use Rattle.aeth_running.specs.{Network.first_network, Network.played, Running.IsRunning}
+use Rattle.aeth_running.specs.{Told.channel_told, Told.last_lanes, Told.session_told}
+use Rattle.aeth_running.specs.{Told.sessions_told, Routing.Routing}
+use Rattle.aeth_running.proofs.{InOrder.below, InOrder.passes-at, LastLanes.goer-at}
+use Rattle.aeth_running.proofs.{LastLanes.goings-count, LastLanes.told-at, OutsideTold.outside-is}
+use Rattle.aeth_running.proofs.{Played.played-log, Replaced.lane_before, Replaced.last-lanes-are}
+use Rattle.aeth_running.proofs.{SessionCycles.accept-alone, SessionCycles.ended-server}
+use Rattle.aeth_running.proofs.{SessionTold.session-is, Untils.accepted-until}
+use Rattle.aeth_stimuli.specs.{Stimuli.goings_over, Loaded.no_lane, Sessions.IsBefore}
+use Rattle.aeth_stimuli.specs.{Sessions.SessionGoing, Sessions.as_going, Sessions.going_of}
 
 -- Sessions that are told, each with its own lane.
 told-each : (cycles : ℕ) (landings : List ℕ) (firsts : List SessionData) (lanes : List Lane)

@@ -1,28 +1,21 @@
 -- The sessions of the fabric of accepted inputs, by their numbers: each is one of a known channel, and
 -- those of one channel come one after the other.
-use Rattle.std.proofs.Common.{◌≡◌, ◌≤◌, ◌<◌, ◌∙◌, ◌+◌, ℕ, Option, Some, None, length}
-use Rattle.std.proofs.Common.{slice_get}
-use Rattle.std.proofs.Common.{refl, sym, ap, inl, inr, arith}
-use Rattle.std.specs.Prelude.{IfSome, max, option_map, unwrap_or}
+use Rattle.std.proofs.Common.{◌≡◌, ◌≤◌, ◌<◌, ◌∙◌, ◌+◌, ℕ, Option, Some, None, length, slice_get}
+use Rattle.std.proofs.Common.{refl, sym, ap, inl, inr, arith, IfSome, max, option_map, unwrap_or}
 use Rattle.std.proofs.Math.Nat.{le-max_right}
 use Rattle.std.proofs.lemmas.Bool.{cases_order}
 use Rattle.std.proofs.lemmas.Option.{get_or_from_slice_get, slice_get-map, slice_get_within}
-use Rattle.aeth_base.specs.Limits.{max_path_delay}
-use Rattle.aeth_base.specs.declared.ids.Channel.{Channel}
+use Rattle.aeth_base.specs.{Limits.max_path_delay, declared.ids.Channel.Channel}
 use Rattle.aeth_group.proofs.MemberLemmas.{connections-groups_of}
 use Rattle.aeth_components.proofs.FrameLemmas.{from-map}
 use Rattle.aeth_report.specs.Flows.{close_at, sessions_in}
 use Rattle.aeth_report.specs.Sessions.{Switch, close_by, go_of, session_of}
-use Rattle.aeth_report.specs.declared.session.Close.{Close}
-use Rattle.aeth_report.specs.declared.session.Session.{Session}
-use Rattle.aeth_reconf.specs.Windows.{IsInOrder}
-use Rattle.aeth_reconf.proofs.WindowLemmas.{in_order}
-use Rattle.aeth_refinement.specs.Accepted.{IsAccepted}
-use Rattle.aeth_refinement.specs.Fabric.{server_at}
+use Rattle.aeth_report.specs.declared.session.{Close.Close, Session.Session}
+use Rattle.aeth_reconf.{specs.Windows.IsInOrder, proofs.WindowLemmas.in_order}
+use Rattle.aeth_refinement.specs.{Accepted.IsAccepted, Fabric.server_at}
 use Rattle.aeth_accepted.specs.Inputs.{AreAccepted, Inputs, row_at, run_of}
 use Rattle.aeth_accepted.proofs.SoundRuns.{AreSpans, is_sound}
-use Rattle.aeth_fabric.specs.Fabric.{Placed, fabric_of, no_placed, placed_at, placed_of}
-use Rattle.aeth_fabric.specs.Fabric.{stays_in}
+use Rattle.aeth_fabric.specs.Fabric.{Placed, fabric_of, no_placed, placed_at, placed_of, stays_in}
 use Rattle.aeth_fabric.proofs.Numbers.{numbered, one_number, placed-there}
 use Rattle.aeth_fabric.proofs.WritableRuns.{writable}
 use Rattle.aeth_running.proofs.ChannelNumbers.{channel-same}

@@ -1,55 +1,37 @@
 -- The network of accepted inputs before the first cycle: its components run, and no channel has a
 -- session.
-use Rattle.std.proofs.Common.{◌≡◌, ◌≤◌, ◌<◌, ◌∙◌, ◌*◌, ℕ, List, Some, Option, None, get_or}
-use Rattle.std.proofs.Common.{length, replicate}
-use Rattle.std.proofs.Common.{All, map, slice_get, refl, subst, sym, ap, arith}
+use Rattle.std.proofs.Common.{◌≡◌, ◌≤◌, ◌<◌, ◌∙◌, ◌*◌, ℕ, List, Some, Option, None, get_or, length}
+use Rattle.std.proofs.Common.{replicate, All, map, slice_get, refl, subst, sym, ap, arith}
 use Rattle.std.proofs.lemmas.List.{get_or-replicate, length-map, length-replicate}
 use Rattle.std.proofs.lemmas.List.Elements.{All-replicate}
 use Rattle.std.proofs.lemmas.Option.{same_Some, slice_get-get_or, slice_get_within}
-use Rattle.aeth_chip.specs.Chip.{IsChip}
-use Rattle.aeth_chip.specs.Wires.{wires_of}
+use Rattle.aeth_chip.specs.{Chip.IsChip, Wires.wires_of}
 use Rattle.aeth_chip.proofs.WireLemmas.{have_delays, wires_of-split}
 use Rattle.aeth_clocked.specs.declared.flit.Flit.{Flit}
-use Rattle.aeth_trace.specs.Channels.{channel_number}
-use Rattle.aeth_trace.specs.Limits.{usual_pull}
-use Rattle.aeth_trace.specs.Receivers.{pulls_on}
-use Rattle.aeth_trace.specs.declared.receivers.PullRow.{PullRow}
-use Rattle.aeth_components.proofs.MadeLemmas.{length-new_parts}
-use Rattle.aeth_components.proofs.PartLemmas.{frames-switched}
-use Rattle.aeth_components.specs.Changes.{switched}
-use Rattle.aeth_components.specs.Components.{ComponentsState, IsComponents, first_components}
-use Rattle.aeth_components.specs.Components.{frames_of}
-use Rattle.aeth_components.specs.Frames.{Frame, IsWired, frame_of}
-use Rattle.aeth_components.specs.Lanes.{IsLane}
-use Rattle.aeth_components.specs.Making.{new_parts}
-use Rattle.aeth_components.specs.declared.lane.Lane.{Lane}
-use Rattle.aeth_components.specs.declared.making.RouterKind.TheVariants.{ByHeader}
+use Rattle.aeth_trace.specs.{Channels.channel_number, Limits.usual_pull, Receivers.pulls_on}
+use Rattle.aeth_trace.specs.{declared.receivers.PullRow.PullRow}
+use Rattle.aeth_components.proofs.{MadeLemmas.length-new_parts, PartLemmas.frames-switched}
+use Rattle.aeth_components.specs.{Changes.switched, Components.ComponentsState}
+use Rattle.aeth_components.specs.{Components.IsComponents, Components.first_components}
+use Rattle.aeth_components.specs.{Components.frames_of, Frames.Frame, Frames.IsWired}
+use Rattle.aeth_components.specs.{Frames.frame_of, Lanes.IsLane, Making.new_parts}
+use Rattle.aeth_components.specs.{declared.lane.Lane.Lane}
+use Rattle.aeth_components.specs.{declared.making.RouterKind.TheVariants.ByHeader}
 use Rattle.aeth_refinement.specs.Accepted.{IsAccepted}
 use Rattle.aeth_accepted.specs.Inputs.{Inputs, run_of}
 use Rattle.aeth_fabric.specs.Fabric.{fabric_of, opposite_in, passage_of, placed_at, placed_of}
-use Rattle.aeth_schedule.specs.Rooms.{rooms_of}
-use Rattle.aeth_schedule.specs.Switching.{loaded_of}
-use Rattle.aeth_schedule.specs.Values.{values_of}
-use Rattle.aeth_invariant.proofs.Routed.{frames-but_tables}
-use Rattle.aeth_invariant.proofs.Running.{runs-but_tables}
-use Rattle.aeth_invariant.specs.Beginning.{AreEmpty}
-use Rattle.aeth_invariant.specs.Events.{AreEvents}
-use Rattle.aeth_invariant.specs.Routed.{without_table}
-use Rattle.aeth_invariant.specs.Running.{Runs}
-use Rattle.aeth_stimuli.proofs.FittingEvents.{rooms-counted}
-use Rattle.aeth_running.proofs.ChannelNumbers.{channel-within}
-use Rattle.aeth_running.proofs.ChannelRows.{last_pull}
-use Rattle.aeth_running.proofs.ChannelStates.{Unused}
-use Rattle.aeth_running.proofs.NetworkLaws.{BeginningLaws}
-use Rattle.aeth_running.proofs.NetworkSteps.{Plays}
-use Rattle.aeth_running.proofs.RouterTables.{but-first, tables-first}
-use Rattle.aeth_running.specs.Network.{first_network, routed_components}
-use Rattle.aeth_running.specs.Routing.{Routing}
-use Rattle.aeth_stimuli.specs.Loaded.{loaded_components, no_lane}
-use Rattle.aeth_stimuli.specs.OnChip.{HaveRooms, IsOver}
-use Rattle.aeth_running.specs.Running.{IsRunning}
-use Rattle.aeth_stimuli.specs.Sessions.{channel_of}
-use Rattle.aeth_stimuli.proofs.WordWindows.{below-none}
+use Rattle.aeth_schedule.specs.{Rooms.rooms_of, Switching.loaded_of, Values.values_of}
+use Rattle.aeth_invariant.proofs.{Routed.frames-but_tables, Running.runs-but_tables}
+use Rattle.aeth_invariant.specs.{Beginning.AreEmpty, Events.AreEvents, Routed.without_table}
+use Rattle.aeth_invariant.specs.{Running.Runs}
+use Rattle.aeth_stimuli.proofs.{FittingEvents.rooms-counted, WordWindows.below-none}
+use Rattle.aeth_stimuli.specs.{Loaded.loaded_components, Loaded.no_lane, OnChip.HaveRooms}
+use Rattle.aeth_stimuli.specs.{OnChip.IsOver, Sessions.channel_of}
+use Rattle.aeth_running.proofs.{ChannelNumbers.channel-within, ChannelRows.last_pull}
+use Rattle.aeth_running.proofs.{ChannelStates.Unused, NetworkLaws.BeginningLaws, NetworkSteps.Plays}
+use Rattle.aeth_running.proofs.{RouterTables.but-first, RouterTables.tables-first}
+use Rattle.aeth_running.specs.{Network.first_network, Network.routed_components, Routing.Routing}
+use Rattle.aeth_running.specs.{Running.IsRunning}
 
 -- What stands at a place of a list of one item.
 replicate-at : {X : Type 0} (size i : ℕ) (x y : X) → slice_get (replicate size x) i ≡ Some y → x ≡ y

@@ -2,31 +2,24 @@
 -- the run.
 use Rattle.std.proofs.Common.{◌≡◌, ◌≤◌, ◌<◌, ◌∙◌, ℕ, zero, suc, ◌+◌, ◌*◌, ◌-◌, ◌&&◌, List, drop}
 use Rattle.std.proofs.Common.{filter, length, map, max, min, take, refl, sym, ap, inl, inr, arith}
-use Rattle.std.specs.Prelude.{nat_le, nat_lt, slice_index}
+use Rattle.std.proofs.Common.{nat_le, nat_lt, slice_index, le-leb, le-ltb, lt-ltb, get_or-take}
+use Rattle.std.proofs.lemmas.Bool.{cases_lt, lt-leb}
+use Rattle.std.proofs.lemmas.List.{length-map, take-map, Kept.IsNonDecreasingBy-filter}
 use Rattle.std.specs.List.Sorted.{IsNonDecreasingBy}
-use Rattle.std.proofs.lemmas.Bool.{cases_lt, le-leb, le-ltb, lt-leb, lt-ltb}
-use Rattle.std.proofs.lemmas.List.{get_or-take, length-map, take-map}
-use Rattle.std.proofs.lemmas.List.Kept.{IsNonDecreasingBy-filter}
-use Rattle.aeth_base.specs.declared.ids.Channel.{Channel}
-use Rattle.aeth_base.proofs.Filters.{filter-map}
-use Rattle.aeth_server.specs.ChannelShape.{shape_of}
-use Rattle.aeth_server.specs.FinishTimes.{due_cycle, finish_time}
-use Rattle.aeth_server.specs.PrivateServer.{accepted, arrived}
-use Rattle.aeth_server.specs.Shape.{Shape, channel_latency}
-use Rattle.aeth_trace.specs.Channels.{is_channel}
-use Rattle.aeth_trace.specs.Words.{words_on}
-use Rattle.aeth_trace.specs.declared.words.WordRow.{WordRow}
+use Rattle.aeth_base.{specs.declared.ids.Channel.Channel, proofs.Filters.filter-map}
+use Rattle.aeth_server.specs.{ChannelShape.shape_of, FinishTimes.due_cycle, FinishTimes.finish_time}
+use Rattle.aeth_server.specs.{PrivateServer.accepted, PrivateServer.arrived, Shape.Shape}
+use Rattle.aeth_server.specs.{Shape.channel_latency}
+use Rattle.aeth_trace.specs.{Channels.is_channel, Words.words_on, declared.words.WordRow.WordRow}
 use Rattle.aeth_report.specs.Flows.{close_at, server_of, values_of, words_in}
 use Rattle.aeth_report.specs.RunLog.{due_of}
-use Rattle.aeth_report.specs.declared.log.Landing.{Landing}
-use Rattle.aeth_report.specs.declared.session.Session.{Session}
+use Rattle.aeth_report.specs.declared.{log.Landing.Landing, session.Session.Session}
 use Rattle.aeth_accepted.specs.Inputs.{AreAccepted, Inputs, run_of}
-use Rattle.aeth_schedule.specs.Values.{before_of}
-use Rattle.aeth_schedule.specs.declared.going.Going.{Going}
+use Rattle.aeth_schedule.specs.{Values.before_of, declared.going.Going.Going}
 use Rattle.aeth_running.specs.FirstLog.{first_row, rows_of}
+use Rattle.aeth_running.proofs.InOrder.{below, below-both, below-first, between-are, between-count}
 use Rattle.aeth_stimuli.specs.Sessions.{SessionGoing, as_going, going_of}
 use Rattle.aeth_stimuli.proofs.WordWindows.{below-none}
-use Rattle.aeth_running.proofs.InOrder.{below, below-both, below-first, between-are, between-count}
 
 -- The first i words are done as they are by themselves.
 finish-first : (size rate latency n : ℕ) (arrivals : List ℕ) (i : ℕ) → i ≤ n

@@ -1,13 +1,8 @@
 -- The flits that a network has counted are those of the run.
-use Rattle.std.proofs.Common.{◌≡◌, ◌<◌, ◌∙◌, ℕ, ◌==◌, length, map, not}
-use Rattle.std.proofs.Common.{arith}
-use Rattle.std.specs.Prelude.{count_by}
-use Rattle.std.specs.List.{range_with_len}
-use Rattle.std.proofs.lemmas.List.FromFn.{fill_by_all}
-use Rattle.std.proofs.lemmas.Option.{slice_get-get_or}
-use Rattle.std.specs.List.{slice_index_or}
-use Rattle.aeth_report.specs.Carries.{carries as carries_in}
-use Rattle.aeth_report.specs.RunLog.{flits_over}
+use Rattle.std.proofs.Common.{◌≡◌, ◌<◌, ◌∙◌, ℕ, ◌==◌, length, map, not, arith, count_by}
+use Rattle.std.proofs.lemmas.{List.FromFn.fill_by_all, Option.slice_get-get_or}
+use Rattle.std.specs.List.{range_with_len, slice_index_or}
+use Rattle.aeth_report.specs.{Carries.carries as carries_in, RunLog.flits_over}
 use Rattle.aeth_refinement.specs.Carries.{carries}
 use Rattle.aeth_components.specs.Components.{ComponentsState}
 use Rattle.aeth_accepted.specs.Inputs.{Inputs, run_of}

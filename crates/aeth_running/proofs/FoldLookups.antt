@@ -1,8 +1,7 @@
 -- Folds that change one place at each step, looked up at a place.
 use Rattle.std.proofs.Common.{◌≡◌, ◌∙◌, ℕ, List, [], ◌∷◌, Some, filter, fold, length, slice_get}
-use Rattle.std.proofs.Common.{refl, inl, inr}
-use Rattle.std.specs.Prelude.{◌==◌}
-use Rattle.std.proofs.lemmas.Bool.{cases_Bool, eqb-false, eqb-true}
+use Rattle.std.proofs.Common.{refl, inl, inr, ◌==◌, eqb-true}
+use Rattle.std.proofs.lemmas.Bool.{cases_Bool, eqb-false}
 
 -- At a number a step of a row at that number changes what stands there, and any other row leaves it.
 -- So all rows do what those at that number do.

@@ -1,26 +1,20 @@
 -- Which session goes over a channel in a cycle: one of its fabric, or none.
 use Rattle.std.proofs.Common.{◌≡◌, ◌<◌, ◌∙◌, ℕ, List, [], ◌∷◌, Some, filter, length, map, slice_get}
-use Rattle.std.proofs.Common.{sym, ap, arith}
-use Rattle.std.specs.Prelude.{◌==◌, nat_lt}
-use Rattle.std.proofs.lemmas.Bool.{eqb-true, lt-ltb}
+use Rattle.std.proofs.Common.{sym, ap, arith, ◌==◌, nat_lt, eqb-true, lt-ltb}
 use Rattle.aeth_base.specs.declared.ids.Channel.{Channel}
+use Rattle.aeth_base.proofs.{Filters.filter-map, Filters.filter-swap, Lists.map-nil}
 use Rattle.aeth_trace.specs.Channels.{channel_number}
-use Rattle.aeth_report.specs.Flows.{sessions_in}
-use Rattle.aeth_report.specs.declared.session.Session.{Session}
+use Rattle.aeth_report.specs.{Flows.sessions_in, declared.session.Session.Session}
 use Rattle.aeth_refinement.specs.Fabric.{server_at}
 use Rattle.aeth_accepted.specs.Inputs.{Inputs, run_of}
 use Rattle.aeth_fabric.specs.Fabric.{fabric_of, placed_at}
-use Rattle.aeth_schedule.specs.Goings.{goings_of}
-use Rattle.aeth_schedule.specs.declared.going.Going.{Going}
+use Rattle.aeth_schedule.specs.{Goings.goings_of, declared.going.Going.Going}
 use Rattle.aeth_running.proofs.ChannelNumbers.{channel-same}
 use Rattle.aeth_running.proofs.FabricSessions.{session-number, session-there, session_at}
-use Rattle.aeth_base.proofs.Filters.{filter-map, filter-swap}
-use Rattle.aeth_base.proofs.Lists.{map-nil}
 use Rattle.aeth_running.proofs.RowFilters.{NoneHas, OneHas, filter-within, map-one, one-at}
-use Rattle.aeth_stimuli.specs.Stimuli.{goings_over}
 use Rattle.aeth_running.specs.Network.{goings_in}
+use Rattle.aeth_stimuli.specs.Stimuli.{goings_over, is_over, stimuli_of}
 use Rattle.aeth_stimuli.specs.Sessions.{SessionGoing, as_going, channel_of, going_of}
-use Rattle.aeth_stimuli.specs.Stimuli.{is_over, stimuli_of}
 
 module _ (inputs : Inputs) (t : ℕ) (channel : Channel) where
   -- The sessions over a channel that go in a cycle, as the schedule has them.

@@ -1,15 +1,12 @@
 -- Lists in the order of a number: what is below a number comes first.
-use Rattle.std.proofs.Common.{◌≡◌, ◌≤◌, ◌∙◌, ℕ, suc, ◌+◌, ◌-◌, Bool, true, List, []}
-use Rattle.std.proofs.Common.{◌∷◌, ◌++◌, Some, drop, filter, length, map, min, slice_get, take}
-use Rattle.std.proofs.Common.{refl, sym, ap, inl, inr, arith}
-use Rattle.std.specs.Prelude.{◌==◌, ◌&&◌, nat_le, nat_lt}
-use Rattle.std.specs.List.Sorted.{IsNonDecreasingBy}
-use Rattle.std.proofs.lemmas.Bool.{cases_Bool, cases_lt, cases_order, eq-eqb, le-leb, le-ltb, lt-leb}
-use Rattle.std.proofs.lemmas.Bool.{lt-ltb}
-use Rattle.std.proofs.lemmas.Bool.{ne_eqb}
-use Rattle.std.proofs.lemmas.List.Elements.{filter_passes}
-use Rattle.std.proofs.lemmas.List.Kept.{IsNonDecreasingBy-filter}
+use Rattle.std.proofs.Common.{◌≡◌, ◌≤◌, ◌∙◌, ℕ, suc, ◌+◌, ◌-◌, Bool, true, List, [], ◌∷◌, ◌++◌}
+use Rattle.std.proofs.Common.{Some, drop, filter, length, map, min, slice_get, take, refl, sym, ap}
+use Rattle.std.proofs.Common.{inl, inr, arith, ◌==◌, ◌&&◌, nat_le, nat_lt, eq-eqb, le-leb, le-ltb}
+use Rattle.std.proofs.Common.{lt-ltb, ne_eqb}
+use Rattle.std.proofs.lemmas.Bool.{cases_Bool, cases_lt, cases_order, lt-leb}
+use Rattle.std.proofs.lemmas.List.{Elements.filter_passes, Kept.IsNonDecreasingBy-filter}
 use Rattle.std.proofs.lemmas.Option.{get_or_from_slice_get, slice_get_within}
+use Rattle.std.specs.List.Sorted.{IsNonDecreasingBy}
 use Rattle.aeth_stimuli.proofs.WordWindows.{below-none}
 use Rattle.aeth_trace.proofs.OrderLemmas.{first_least, later_rise}
 

@@ -1,29 +1,23 @@
 -- What a cycle of components keeps of a channel: all but how many words were handed on, have landed and
 -- were taken. And what holds of all components still does.
-use Rattle.std.proofs.Common.{◌≡◌, ◌∙◌, ℕ, List, Option, length, map}
-use Rattle.std.proofs.Common.{refl, sym, ap, subst, arith}
+use Rattle.std.proofs.Common.{◌≡◌, ◌∙◌, ℕ, List, Option, length, map, refl, sym, ap, subst, arith}
+use Rattle.std.proofs.lemmas.List.{length-map, Elements.All-map}
 use Rattle.std.specs.List.{All, range_with_len}
-use Rattle.std.proofs.lemmas.List.{length-map}
-use Rattle.std.proofs.lemmas.List.Elements.{All-map}
 use Rattle.aeth_clocked.specs.declared.flit.Flit.{Flit}
-use Rattle.aeth_components.proofs.CountingLemmas.{IsLane-counted}
-use Rattle.aeth_components.proofs.CountingLemmas.{length-flits_counted, length-notes}
-use Rattle.aeth_components.proofs.FrameLemmas.{frames-absorb, frames-after}
-use Rattle.aeth_components.proofs.FrameLemmas.{length-wires_driven}
+use Rattle.aeth_components.proofs.CountingLemmas.{IsLane-counted, length-flits_counted}
+use Rattle.aeth_components.proofs.CountingLemmas.{length-notes}
+use Rattle.aeth_components.proofs.FrameLemmas.{frames-absorb, frames-after, length-wires_driven}
 use Rattle.aeth_components.proofs.KeptLemmas.{IsUncounted, kept-counted, kept-latched}
 use Rattle.aeth_components.proofs.PartLemmas.{frames-switched}
 use Rattle.aeth_components.proofs.TurnLemmas.{All-turns, IsLane-pulled, IsLane-refilled}
-use Rattle.aeth_components.proofs.TurnLemmas.{frames-pulled}
-use Rattle.aeth_components.proofs.TurnLemmas.{frames-refilled, frames-turns}
-use Rattle.aeth_components.specs.Components.{ComponentsState, Cycle, IsComponents, driven_from}
-use Rattle.aeth_components.specs.Components.{frames_of}
-use Rattle.aeth_components.specs.Components.{latched_of, moment_of, ready_of, switched_from}
-use Rattle.aeth_components.specs.Counting.{counted}
-use Rattle.aeth_components.specs.Frames.{Frame, IsWired, frame_of}
-use Rattle.aeth_components.specs.Lanes.{IsLane}
-use Rattle.aeth_components.specs.Phases.{Moment, in_turn, pulled, refilled}
-use Rattle.aeth_components.specs.declared.event.Event.{Event}
-use Rattle.aeth_components.specs.declared.lane.Lane.{Lane}
+use Rattle.aeth_components.proofs.TurnLemmas.{frames-pulled, frames-refilled, frames-turns}
+use Rattle.aeth_components.specs.{Components.ComponentsState, Components.Cycle}
+use Rattle.aeth_components.specs.{Components.IsComponents, Components.driven_from}
+use Rattle.aeth_components.specs.{Components.frames_of, Components.latched_of, Components.moment_of}
+use Rattle.aeth_components.specs.{Components.ready_of, Components.switched_from, Counting.counted}
+use Rattle.aeth_components.specs.{Frames.Frame, Frames.IsWired, Frames.frame_of, Lanes.IsLane}
+use Rattle.aeth_components.specs.{Phases.Moment, Phases.in_turn, Phases.pulled, Phases.refilled}
+use Rattle.aeth_components.specs.{declared.event.Event.Event, declared.lane.Lane.Lane}
 use Rattle.aeth_running.specs.Network.{state_behind}
 
 -- A channel but for these counts.

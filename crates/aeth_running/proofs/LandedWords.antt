@@ -1,17 +1,13 @@
 -- The words of a private server that have landed, by the cycles that were noted for them.
-use Rattle.std.proofs.Common.{◌≡◌, ◌≤◌, ◌<◌, ◌∙◌, ℕ, zero, suc, ◌+◌, ◌-◌, Bool, true, false, List, []}
-use Rattle.std.proofs.Common.{◌∷◌}
-use Rattle.std.proofs.Common.{Some, drop, min, slice_get, take, refl, sym, ap, inl, inr, arith}
-use Rattle.std.specs.Prelude.{count_by, nat_lt}
-use Rattle.std.proofs.lemmas.Bool.{cases_lt, le-ltb, lt-ltb}
-use Rattle.std.proofs.lemmas.Option.{same_Some}
+use Rattle.std.proofs.Common.{◌≡◌, ◌≤◌, ◌<◌, ◌∙◌, ℕ, zero, suc, ◌+◌, ◌-◌, Bool, true, false, List}
+use Rattle.std.proofs.Common.{[], ◌∷◌, Some, drop, min, slice_get, take, refl, sym, ap, inl, inr}
+use Rattle.std.proofs.Common.{arith, count_by, nat_lt, le-ltb, lt-ltb}
+use Rattle.std.proofs.lemmas.{Bool.cases_lt, Option.same_Some}
 use Rattle.aeth_base.proofs.Lists.{count_by-no, count_by-yes}
-use Rattle.aeth_server.specs.Landing.{LandsAt, landing_cycle}
-use Rattle.aeth_server.specs.PrivateServer.{PrivateServer, landed}
-use Rattle.aeth_server.specs.Shape.{HasPaths}
-use Rattle.aeth_server.proofs.LandingLemmas.{landing_cycle-lands}
-use Rattle.aeth_server.proofs.PrivateServerLemmas.{has-grown}
-use Rattle.aeth_server.proofs.SessionEnds.{idle-before, is-closed}
+use Rattle.aeth_server.specs.{Landing.LandsAt, Landing.landing_cycle, PrivateServer.PrivateServer}
+use Rattle.aeth_server.specs.{PrivateServer.landed, Shape.HasPaths}
+use Rattle.aeth_server.proofs.{LandingLemmas.landing_cycle-lands, PrivateServerLemmas.has-grown}
+use Rattle.aeth_server.proofs.{SessionEnds.idle-before, SessionEnds.is-closed}
 use Rattle.aeth_report.proofs.LogRows.{lands-before, lands-once}
 
 -- What stands behind some first items.

@@ -1,15 +1,13 @@
 -- A channel once sessions have gone, words are accepted and receivers have their rows: what the rows of
 -- its own number make of it.
-use Rattle.std.proofs.Common.{◌≡◌, ◌∙◌, ◌+◌, ℕ, suc, Bool, true, false, List, [], ◌∷◌, Some}
-use Rattle.std.proofs.Common.{filter, fold}
-use Rattle.std.proofs.Common.{length, slice_get, refl, sym, ap, arith}
-use Rattle.std.specs.Prelude.{◌==◌, nat_lt, slice_index, if◌then◌else◌}
+use Rattle.std.proofs.Common.{◌≡◌, ◌∙◌, ◌+◌, ℕ, suc, Bool, true, false, List, [], ◌∷◌, Some, filter}
+use Rattle.std.proofs.Common.{fold, length, slice_get, refl, sym, ap, arith, ◌==◌, nat_lt}
+use Rattle.std.proofs.Common.{slice_index, if◌then◌else◌}
 use Rattle.std.proofs.lemmas.Option.{get_or_from_slice_get, slice_get_within}
 use Rattle.aeth_base.proofs.Lists.{slice_get-slice_set_other, slice_get-slice_set_same}
 use Rattle.aeth_trace.specs.Channels.{channel_number}
-use Rattle.aeth_components.specs.Lanes.{with_lane}
+use Rattle.aeth_components.specs.{Lanes.with_lane, declared.lane.Lane.Lane}
 use Rattle.aeth_components.proofs.LaneLemmas.{length-with_lane, with_lane-other, with_lane-own}
-use Rattle.aeth_components.specs.declared.lane.Lane.{Lane}
 use Rattle.aeth_schedule.specs.declared.going.Going.{Going}
 use Rattle.aeth_running.proofs.FoldLookups.{fold-at, length-fold}
 use Rattle.aeth_running.specs.Network.{accepted_with, gone_with, goings_in, lanes_in, offers_in}

@@ -1,15 +1,11 @@
 -- What interfaces tell of the last flit: nothing before the first cycle, and nothing of empty wires.
-use Rattle.std.proofs.Common.{◌≡◌, ◌∙◌, ◌++◌, ◌-◌, ℕ, Contains, List, None, Option, Some, ap}
-use Rattle.std.proofs.Common.{inl, inr, length, map, refl, slice_get, sym}
-use Rattle.std.specs.List.{range_with_len}
-use Rattle.std.specs.Option.{option_map}
-use Rattle.std.proofs.lemmas.List.Elements.{Contains-append_cases}
-use Rattle.std.proofs.lemmas.Option.{slice_get-map}
+use Rattle.std.proofs.Common.{◌≡◌, ◌∙◌, ◌++◌, ◌-◌, ℕ, Contains, List, None, Option, Some, ap, inl}
+use Rattle.std.proofs.Common.{inr, length, map, refl, slice_get, sym}
+use Rattle.std.proofs.lemmas.{List.Elements.Contains-append_cases, Option.slice_get-map}
+use Rattle.std.specs.{List.range_with_len, Option.option_map}
 use Rattle.aeth_base.proofs.Members.{Contains-slice_get, flat_map-Contains, map-Contains}
-use Rattle.aeth_chip.specs.Chip.{ChipData}
-use Rattle.aeth_chip.specs.Paths.{delay_of}
-use Rattle.aeth_clocked.specs.Wires.{flit_on}
-use Rattle.aeth_clocked.specs.declared.flit.Flit.{Flit}
+use Rattle.aeth_chip.specs.{Chip.ChipData, Paths.delay_of}
+use Rattle.aeth_clocked.specs.{Wires.flit_on, declared.flit.Flit.Flit}
 use Rattle.aeth_ni.specs.Interface.{InterfaceState}
 use Rattle.aeth_ni.specs.Writes.{written}
 use Rattle.aeth_ni.specs.declared.write.Write.{Write}
@@ -17,9 +13,8 @@ use Rattle.aeth_ni.specs.declared.write.Write.TheVariants.{ClearRoute, ClearSlot
 use Rattle.aeth_router.specs.Part.{absorb_of}
 use Rattle.aeth_router.specs.declared.part.Part.{Part}
 use Rattle.aeth_router.specs.declared.part.Part.TheVariants.{Interface, Router, Stage, TableRouter}
-use Rattle.aeth_components.proofs.FrameLemmas.{from-map}
-use Rattle.aeth_components.proofs.PartLemmas.{views-switched}
-use Rattle.aeth_components.proofs.SeenPhases.{view-kept}
+use Rattle.aeth_components.proofs.{FrameLemmas.from-map, PartLemmas.views-switched}
+use Rattle.aeth_components.proofs.{SeenPhases.view-kept}
 use Rattle.aeth_components.specs.Changes.{event_done, switched}
 use Rattle.aeth_components.specs.Making.{link_stages, made_interface, made_router, made_stage}
 use Rattle.aeth_components.specs.Making.{made_stages, new_parts}

@@ -1,39 +1,33 @@
 -- How a channel stood at the end of each of its sessions.
 use Rattle.std.proofs.Common.{◌≡◌, ◌≤◌, ◌<◌, ◌∙◌, ℕ, zero, suc, ◌+◌, ◌-◌, List, [], ◌∷◌, ◌++◌, Some}
-use Rattle.std.proofs.Common.{drop}
-use Rattle.std.proofs.Common.{filter, length, map, min, slice_get, take, sym, ap, subst, inl, inr, arith}
-use Rattle.std.specs.Prelude.{nat_lt, option_map, slice_index_or}
+use Rattle.std.proofs.Common.{drop, filter, length, map, min, slice_get, take, sym, ap, subst, inl}
+use Rattle.std.proofs.Common.{inr, arith, nat_lt, option_map, slice_index_or, ltb-true, length-drop}
+use Rattle.std.proofs.lemmas.{Bool.cases_lt, List.length-map, Option.get_or_from_slice_get}
+use Rattle.std.proofs.lemmas.{Option.same_Some, Option.slice_get-get_or, Option.slice_get-map}
+use Rattle.std.proofs.lemmas.{Option.slice_get_within}
 use Rattle.std.specs.List.Sorted.{IsNonDecreasingBy}
-use Rattle.std.proofs.lemmas.Bool.{cases_lt, ltb-true}
-use Rattle.std.proofs.lemmas.List.{length-drop, length-map}
-use Rattle.std.proofs.lemmas.Option.{get_or_from_slice_get, same_Some, slice_get-get_or, slice_get-map}
-use Rattle.std.proofs.lemmas.Option.{slice_get_within}
 use Rattle.aeth_base.specs.declared.ids.Channel.{Channel}
 use Rattle.aeth_server.specs.PrivateServer.{PrivateServer, landed, taken}
 use Rattle.aeth_trace.specs.Channels.{channel_number}
-use Rattle.aeth_report.specs.Flows.{close_at, sessions_in}
-use Rattle.aeth_report.specs.declared.session.Session.{Session}
-use Rattle.aeth_report.specs.Sound.{IsSound}
+use Rattle.aeth_report.specs.{Flows.close_at, Flows.sessions_in, declared.session.Session.Session}
+use Rattle.aeth_report.specs.{Sound.IsSound}
 use Rattle.aeth_report.proofs.SessionMeetings.{mapped_at}
 use Rattle.aeth_components.specs.declared.lane.Lane.{Lane}
 use Rattle.aeth_refinement.specs.Fabric.{server_at}
 use Rattle.aeth_accepted.specs.Inputs.{Inputs, run_of}
-use Rattle.aeth_fabric.specs.Fabric.{fabric_of}
-use Rattle.aeth_fabric.proofs.Flattened.{drop-one}
+use Rattle.aeth_fabric.{specs.Fabric.fabric_of, proofs.Flattened.drop-one}
 use Rattle.aeth_reconf.proofs.WriteCounts.{before, behind}
-use Rattle.aeth_schedule.specs.Goings.{goings_of}
-use Rattle.aeth_schedule.specs.declared.going.Going.{Going}
+use Rattle.aeth_schedule.specs.{Goings.goings_of, declared.going.Going.Going}
 use Rattle.aeth_stimuli.specs.Stimuli.{goings_over}
-use Rattle.aeth_running.specs.Network.{first_network, played}
 use Rattle.aeth_stimuli.specs.Loaded.{no_lane}
-use Rattle.aeth_running.specs.Running.{IsLastOf, IsLatest, IsRunning}
 use Rattle.aeth_stimuli.specs.Sessions.{IsBefore, SessionGoing, as_going, channel_of, going_of}
-use Rattle.aeth_running.specs.Told.{last_lanes}
+use Rattle.aeth_running.specs.{Network.first_network, Network.played, Running.IsLastOf}
+use Rattle.aeth_running.specs.{Running.IsLatest, Running.IsRunning, Told.last_lanes}
+use Rattle.aeth_running.specs.{Routing.Routing}
 use Rattle.aeth_running.proofs.InOrder.{below, below-first, passes-at, past-below}
 use Rattle.aeth_running.proofs.Replaced.{lane_before, last-lanes-are}
-use Rattle.aeth_running.proofs.SessionCycles.{HasNumber, ended-server, has-number, is-among, is-over}
-use Rattle.aeth_running.proofs.SessionCycles.{sessions-ordered}
-use Rattle.aeth_running.specs.Routing.{Routing}
+use Rattle.aeth_running.proofs.SessionCycles.{HasNumber, ended-server, has-number, is-among}
+use Rattle.aeth_running.proofs.SessionCycles.{is-over, sessions-ordered}
 
 -- What is among the first items of a list is in it.
 taken-at : {X : Type 0} (n : ℕ) (xs : List X) (i : ℕ) (x : X) → slice_get (take n xs) i ≡ Some x

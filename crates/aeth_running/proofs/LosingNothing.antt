@@ -1,21 +1,17 @@
 -- Of a network that runs on accepted inputs each flit goes on at a router, and each receive queue has its words.
 use Rattle.std.proofs.Common.{◌≡◌, ◌≤◌, ◌<◌, ◌+◌, ◌∙◌, ℕ, zero, suc, Option, Some, sym, ap, arith}
 use Rattle.std.proofs.Common.{length, subst}
-use Rattle.aeth_clocked.specs.Wires.{flit_on}
-use Rattle.aeth_clocked.specs.declared.flit.Flit.{Flit}
+use Rattle.aeth_clocked.specs.{Wires.flit_on, declared.flit.Flit.Flit}
 use Rattle.aeth_components.specs.View.{queue_of}
 use Rattle.aeth_router.specs.Ports.{hopped}
-use Rattle.aeth_refinement.specs.Accepted.{IsAccepted}
-use Rattle.aeth_refinement.specs.Carried.{Exact}
-use Rattle.aeth_refinement.specs.Fabric.{AtRouter, Fabric, Owns, server_at}
+use Rattle.aeth_refinement.specs.{Accepted.IsAccepted, Carried.Exact, Fabric.AtRouter}
+use Rattle.aeth_refinement.specs.{Fabric.Fabric, Fabric.Owns, Fabric.server_at}
 use Rattle.aeth_refinement.proofs.Routers.{behind, goes_past, not_both, to_router}
 use Rattle.aeth_refinement.proofs.Routes.{hops-on}
 use Rattle.aeth_accepted.specs.Inputs.{Inputs}
 use Rattle.aeth_fabric.specs.Fabric.{fabric_of}
-use Rattle.aeth_running.specs.Lossless.{HasGoneOn, LosesNothing}
-use Rattle.aeth_running.specs.Network.{first_network, played}
-use Rattle.aeth_running.specs.Routing.{Routing}
-use Rattle.aeth_running.specs.Running.{IsRunning}
+use Rattle.aeth_running.specs.{Lossless.HasGoneOn, Lossless.LosesNothing, Network.first_network}
+use Rattle.aeth_running.specs.{Network.played, Routing.Routing, Running.IsRunning}
 use Rattle.aeth_running.proofs.NetworkWires.{exact, nothing-first, received, standing}
 
 -- Where wires are exact in two cycles, a flit that came to a router in the first goes on in the second.

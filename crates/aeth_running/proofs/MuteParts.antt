@@ -1,19 +1,13 @@
 -- Components over empty wires drive nothing just where none of them sends words of its own.
 use Rattle.std.proofs.Common.{◌≡◌, ◌∙◌, ℕ, true, false, List, [], ◌∷◌, Option, Some, None, ap}
 use Rattle.std.proofs.Common.{arith, suc, inl, inr, is_some, length, map, refl, slice_get, sym}
+use Rattle.std.proofs.Common.{eq-eqb, replicate}
+use Rattle.std.proofs.lemmas.{Bool.cases_Bool, Bool.cases_lt, List.length-map, Option.slice_get-map}
 use Rattle.std.specs.Option.{option_map}
-use Rattle.std.proofs.lemmas.Bool.{cases_Bool, cases_lt, eq-eqb}
-use Rattle.std.proofs.lemmas.List.{length-map}
-use Rattle.std.proofs.lemmas.Option.{slice_get-map}
-use Rattle.std.specs.Prelude.{replicate}
-use Rattle.aeth_base.proofs.Members.{All-slice_get}
-use Rattle.aeth_base.proofs.TestLemmas.{is_some-false}
-use Rattle.aeth_clocked.proofs.DrivenLemmas.{driven-at}
-use Rattle.aeth_clocked.specs.Driven.{driven}
-use Rattle.aeth_clocked.specs.Wires.{AreLinks, flit_on}
-use Rattle.aeth_clocked.specs.declared.flit.Flit.{Flit}
-use Rattle.aeth_ni.specs.Component.{emitted_by, queue_at_cycle}
-use Rattle.aeth_ni.specs.Interface.{InterfaceState}
+use Rattle.aeth_base.proofs.{Members.All-slice_get, TestLemmas.is_some-false}
+use Rattle.aeth_clocked.{proofs.DrivenLemmas.driven-at, specs.Driven.driven, specs.Wires.AreLinks}
+use Rattle.aeth_clocked.{specs.Wires.flit_on, specs.declared.flit.Flit.Flit}
+use Rattle.aeth_ni.specs.{Component.emitted_by, Component.queue_at_cycle, Interface.InterfaceState}
 use Rattle.aeth_router.proofs.RestingLemmas.{RestsDrive-router, RestsDrive-stage, RestsDrive-table}
 use Rattle.aeth_router.specs.Part.{emit_of, outputs_of}
 use Rattle.aeth_router.specs.Router.{RouterState}
@@ -21,9 +15,8 @@ use Rattle.aeth_router.specs.TableRouter.{TableRouterState}
 use Rattle.aeth_router.specs.declared.part.Part.{Part}
 use Rattle.aeth_router.specs.declared.part.Part.TheVariants.{Interface, Router, Stage, TableRouter}
 use Rattle.aeth_components.proofs.FrameLemmas.{AreDisjoint-parts, length-wires_driven}
-use Rattle.aeth_components.specs.Components.{wires_driven}
-use Rattle.aeth_components.specs.Frames.{Frame, IsWired, frame_of, sends_by}
-use Rattle.aeth_components.specs.Turns.{sends_own}
+use Rattle.aeth_components.specs.{Components.wires_driven, Frames.Frame, Frames.IsWired}
+use Rattle.aeth_components.specs.{Frames.frame_of, Frames.sends_by, Turns.sends_own}
 use Rattle.aeth_invariant.proofs.Driving.{flit_on-driven, flit_on-past}
 use Rattle.aeth_invariant.specs.View.{HaveLatched}
 

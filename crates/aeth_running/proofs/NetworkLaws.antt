@@ -6,21 +6,16 @@ use Rattle.aeth_clocked.specs.Wires.{flit_on}
 use Rattle.aeth_ni.specs.Limits.{queues_of_interface}
 use Rattle.aeth_components.specs.Changes.{switched}
 use Rattle.aeth_components.specs.Components.{ComponentsState, Cycle, IsComponents, first_components}
-use Rattle.aeth_components.specs.declared.event.Event.{Event}
-use Rattle.aeth_components.specs.declared.lane.Lane.{Lane}
-use Rattle.aeth_components.specs.declared.making.RouterKind.TheVariants.{ByHeader}
-use Rattle.aeth_refinement.specs.Accepted.{IsAccepted}
-use Rattle.aeth_refinement.specs.Carried.{Exact}
-use Rattle.aeth_refinement.specs.Fabric.{Fabric, Passage, server_at}
+use Rattle.aeth_components.specs.declared.{event.Event.Event, lane.Lane.Lane}
+use Rattle.aeth_components.specs.declared.{making.RouterKind.TheVariants.ByHeader}
+use Rattle.aeth_refinement.specs.{Accepted.IsAccepted, Carried.Exact, Fabric.Fabric, Fabric.Passage}
+use Rattle.aeth_refinement.specs.{Fabric.server_at}
 use Rattle.aeth_fabric.specs.Wiring.{fabric_on}
-use Rattle.aeth_invariant.specs.Beginning.{AreEmpty, loaded_with}
-use Rattle.aeth_invariant.specs.Events.{AreEvents}
-use Rattle.aeth_invariant.specs.Following.{Follows}
-use Rattle.aeth_invariant.specs.Places.{ArePlaced, HavePlaces}
-use Rattle.aeth_invariant.specs.Running.{Prepares, Runs, Starts}
-use Rattle.aeth_invariant.specs.Served.{handed_after}
-use Rattle.aeth_invariant.specs.Telling.{CountsFlits, HasTold, NotesLandings}
-use Rattle.aeth_invariant.specs.View.{net_of}
+use Rattle.aeth_invariant.specs.{Beginning.AreEmpty, Beginning.loaded_with, Events.AreEvents}
+use Rattle.aeth_invariant.specs.{Following.Follows, Places.ArePlaced, Places.HavePlaces}
+use Rattle.aeth_invariant.specs.{Running.Prepares, Running.Runs, Running.Starts}
+use Rattle.aeth_invariant.specs.{Served.handed_after, Telling.CountsFlits, Telling.HasTold}
+use Rattle.aeth_invariant.specs.{Telling.NotesLandings, View.net_of}
 use Rattle.aeth_stimuli.specs.OnChip.{HaveRooms, IsOver}
 
 -- Before the first cycle.

@@ -1,36 +1,28 @@
 -- The log of the network of accepted inputs is that of their run.
 use Rattle.std.proofs.Common.{◌≡◌, ◌≤◌, ◌<◌, ◌∙◌, ℕ, zero, suc, ◌+◌, ◌*◌, List, ◌∷◌, Some, filter}
-use Rattle.std.proofs.Common.{length, map, slice_get, refl, sym, ap, arith}
-use Rattle.std.specs.Prelude.{flat_map, nat_lt}
-use Rattle.std.specs.List.{range_with_len}
-use Rattle.std.specs.List.Sorted.{IsNonDecreasingBy}
+use Rattle.std.proofs.Common.{length, map, slice_get, refl, sym, ap, arith, flat_map, nat_lt}
 use Rattle.std.proofs.lemmas.List.Concat.{flat_map-cons}
+use Rattle.std.specs.List.{range_with_len, Sorted.IsNonDecreasingBy}
 use Rattle.aeth_base.specs.declared.ids.Channel.{Channel}
 use Rattle.aeth_base.specs.declared.ids.Side.TheVariants.{Back, Fwd}
 use Rattle.aeth_group.proofs.MemberLemmas.{connections-groups_of}
 use Rattle.aeth_trace.specs.Channels.{channel_number}
-use Rattle.aeth_report.specs.Carries.{carries as carries_in}
-use Rattle.aeth_report.specs.Channels.{channels_of, channels_with}
-use Rattle.aeth_report.specs.Flows.{sessions_in}
-use Rattle.aeth_report.specs.Log.{LogData}
-use Rattle.aeth_report.specs.RunLog.{channel_log, log_of}
-use Rattle.aeth_report.specs.declared.session.Session.{Session}
-use Rattle.aeth_report.specs.Sound.{IsSound}
+use Rattle.aeth_report.specs.{Carries.carries as carries_in, Channels.channels_of}
+use Rattle.aeth_report.specs.{Channels.channels_with, Flows.sessions_in, Log.LogData}
+use Rattle.aeth_report.specs.{RunLog.channel_log, RunLog.log_of, declared.session.Session.Session}
+use Rattle.aeth_report.specs.{Sound.IsSound}
 use Rattle.aeth_refinement.specs.Carries.{carries}
 use Rattle.aeth_accepted.specs.Inputs.{AreAccepted, Inputs, run_of}
 use Rattle.aeth_fabric.specs.Fabric.{fabric_of}
 use Rattle.aeth_schedule.specs.Goings.{goings_of}
-use Rattle.aeth_running.specs.FirstLog.{first_channel, first_log}
+use Rattle.aeth_running.specs.{FirstLog.first_channel, FirstLog.first_log, Network.NetworkState}
+use Rattle.aeth_running.specs.{Network.first_network, Network.played, Routing.Routing}
+use Rattle.aeth_running.specs.{Running.IsRunning, Told.channel_told, Told.channels_told}
+use Rattle.aeth_running.specs.{Told.network_log, Told.told}
+use Rattle.aeth_running.proofs.{ChannelNumbers.channel-within, ChannelTold.channel-is}
+use Rattle.aeth_running.proofs.{FlitsTold.flits-are, Played.played-log}
 use Rattle.aeth_stimuli.specs.Stimuli.{goings_over}
-use Rattle.aeth_running.specs.Network.{NetworkState, first_network, played}
-use Rattle.aeth_running.specs.Routing.{Routing}
-use Rattle.aeth_running.specs.Running.{IsRunning}
 use Rattle.aeth_stimuli.specs.Sessions.{IsBefore, as_going, going_of}
-use Rattle.aeth_running.specs.Told.{channel_told, channels_told, network_log, told}
-use Rattle.aeth_running.proofs.ChannelNumbers.{channel-within}
-use Rattle.aeth_running.proofs.ChannelTold.{channel-is}
-use Rattle.aeth_running.proofs.FlitsTold.{flits-are}
-use Rattle.aeth_running.proofs.Played.{played-log}
 
 -- The channels of connections are told one after the other, each by its number.
 channels-are : (all : NetworkState) (inputs : Inputs)

@@ -1,41 +1,32 @@
 -- The network of accepted inputs runs, before each cycle and behind the last.
 use Rattle.std.proofs.Common.{◌≡◌, ◌≤◌, ◌<◌, ◌∙◌, ◌+◌, ◌*◌, ℕ, zero, suc, Some, filter, length, map}
-use Rattle.std.proofs.Common.{slice_get}
-use Rattle.std.proofs.Common.{ap, subst, arith}
-use Rattle.std.specs.Prelude.{nat_lt, Option, unwrap_or}
+use Rattle.std.proofs.Common.{slice_get, ap, subst, arith, nat_lt, Option, unwrap_or}
 use Rattle.aeth_base.specs.declared.ids.Channel.{Channel}
 use Rattle.aeth_trace.specs.Channels.{channel_number}
 use Rattle.aeth_components.specs.Components.{frames_of}
 use Rattle.aeth_report.specs.Flows.{sessions_in}
-use Rattle.aeth_report.specs.declared.session.Close.{Close}
-use Rattle.aeth_report.specs.declared.session.Session.{Session}
-use Rattle.aeth_refinement.specs.Accepted.{IsAccepted}
-use Rattle.aeth_refinement.specs.Carried.{words_from}
-use Rattle.aeth_refinement.specs.Fabric.{flow_at, server_at}
+use Rattle.aeth_report.specs.declared.session.{Close.Close, Session.Session}
+use Rattle.aeth_refinement.specs.{Accepted.IsAccepted, Carried.words_from, Fabric.flow_at}
+use Rattle.aeth_refinement.specs.{Fabric.server_at}
 use Rattle.aeth_accepted.specs.Inputs.{AreAccepted, Inputs, run_of}
 use Rattle.aeth_accepted.proofs.SoundRuns.{AreSpans}
 use Rattle.aeth_fabric.specs.Fabric.{fabric_of}
-use Rattle.aeth_schedule.specs.Goings.{goings_of}
-use Rattle.aeth_schedule.specs.Rooms.{rooms_of}
-use Rattle.aeth_schedule.specs.Switching.{loaded_of}
-use Rattle.aeth_schedule.specs.Values.{values_of}
-use Rattle.aeth_invariant.specs.Events.{AreEvents}
-use Rattle.aeth_invariant.specs.Places.{ArePlaced}
+use Rattle.aeth_schedule.specs.{Goings.goings_of, Rooms.rooms_of, Switching.loaded_of}
+use Rattle.aeth_schedule.specs.{Values.values_of}
+use Rattle.aeth_invariant.specs.{Events.AreEvents, Places.ArePlaced}
 use Rattle.aeth_running.proofs.FabricSessions.{goes-first, ordered, past_of, session-number}
 use Rattle.aeth_running.proofs.FirstNetworks.{first-plays}
 use Rattle.aeth_running.proofs.GoingSessions.{GoesNow, goes-now}
 use Rattle.aeth_running.proofs.NetworkLaws.{BeginningLaws, CycleLaws}
 use Rattle.aeth_running.proofs.NetworkSteps.{Plays, plays-on, then-prepares}
 use Rattle.aeth_running.proofs.Played.{played-time}
-use Rattle.aeth_stimuli.specs.Stimuli.{goings_over}
-use Rattle.aeth_stimuli.specs.Events.{events_in}
 use Rattle.aeth_running.specs.Network.{NetworkState, first_network, played, ready_in, stepped}
-use Rattle.aeth_stimuli.specs.Loaded.{loaded_components}
-use Rattle.aeth_stimuli.specs.OnChip.{HaveRooms, IsOver}
 use Rattle.aeth_running.specs.Routing.{IsRoutingFor, Routing}
 use Rattle.aeth_running.specs.Running.{IsRunning, IsServing}
-use Rattle.aeth_stimuli.specs.Sessions.{IsBefore, as_going, channel_of, first_of, going_of}
-use Rattle.aeth_stimuli.specs.Stimuli.{AreStimuli, stimuli_of}
+use Rattle.aeth_stimuli.specs.{Stimuli.goings_over, Stimuli.AreStimuli, Stimuli.stimuli_of}
+use Rattle.aeth_stimuli.specs.{Events.events_in, Loaded.loaded_components, OnChip.HaveRooms}
+use Rattle.aeth_stimuli.specs.{OnChip.IsOver, Sessions.IsBefore, Sessions.as_going}
+use Rattle.aeth_stimuli.specs.{Sessions.channel_of, Sessions.first_of, Sessions.going_of}
 
 module _ (begin : BeginningLaws) (laws : CycleLaws)
     (fabrics : (inputs : Inputs) → AreAccepted inputs → IsAccepted (fabric_of inputs))

@@ -1,53 +1,38 @@
 -- A network that runs on accepted inputs: its components run, and each channel has its latest session.
 -- One more cycle keeps this.
-use Rattle.std.proofs.Common.{◌≡◌, ◌≤◌, ◌<◌, ◌∙◌, ◌+◌, ℕ, List, Some, length, slice_get}
-use Rattle.std.proofs.Common.{refl, sym, ap, subst, arith, fold}
-use Rattle.std.specs.List.{All}
-use Rattle.std.specs.List.Sorted.{IsNonDecreasingBy}
-use Rattle.std.proofs.lemmas.List.{length-map}
-use Rattle.std.proofs.lemmas.Option.{same_Some}
-use Rattle.aeth_base.specs.Limits.{max_cycles}
-use Rattle.aeth_base.specs.declared.ids.Channel.{Channel}
+use Rattle.std.proofs.Common.{◌≡◌, ◌≤◌, ◌<◌, ◌∙◌, ◌+◌, ℕ, List, Some, length, slice_get, refl, sym}
+use Rattle.std.proofs.Common.{ap, subst, arith, fold}
+use Rattle.std.proofs.lemmas.{List.length-map, Option.same_Some}
+use Rattle.std.specs.List.{All, Sorted.IsNonDecreasingBy}
+use Rattle.aeth_base.specs.{Limits.max_cycles, declared.ids.Channel.Channel}
 use Rattle.aeth_chip.specs.Chip.{IsChip}
 use Rattle.aeth_trace.specs.Channels.{channel_number}
-use Rattle.aeth_components.specs.Components.{IsComponents, frames_of}
-use Rattle.aeth_components.specs.Frames.{frame_of}
-use Rattle.aeth_components.specs.Lanes.{IsLane}
-use Rattle.aeth_components.specs.declared.lane.Lane.{Lane}
-use Rattle.aeth_refinement.specs.Accepted.{IsAccepted}
-use Rattle.aeth_refinement.specs.Carried.{words_from}
-use Rattle.aeth_refinement.specs.Fabric.{IsGoing, flow_at, server_at}
+use Rattle.aeth_components.specs.{Components.IsComponents, Components.frames_of, Frames.frame_of}
+use Rattle.aeth_components.specs.{Lanes.IsLane, declared.lane.Lane.Lane}
+use Rattle.aeth_components.proofs.KeptLemmas.{lane-kept}
+use Rattle.aeth_refinement.specs.{Accepted.IsAccepted, Carried.words_from, Fabric.IsGoing}
+use Rattle.aeth_refinement.specs.{Fabric.flow_at, Fabric.server_at}
 use Rattle.aeth_accepted.specs.Inputs.{Inputs, run_of}
 use Rattle.aeth_fabric.specs.Fabric.{fabric_of, placed_at}
-use Rattle.aeth_schedule.specs.Goings.{goings_of}
-use Rattle.aeth_schedule.specs.Values.{values_of}
-use Rattle.aeth_schedule.specs.declared.going.Going.{Going}
-use Rattle.aeth_invariant.specs.Events.{AreEvents}
-use Rattle.aeth_invariant.specs.Places.{ArePlaced}
-use Rattle.aeth_invariant.specs.Running.{Prepares}
-use Rattle.aeth_components.proofs.KeptLemmas.{lane-kept}
-use Rattle.aeth_running.proofs.ChannelStates.{HasChannel, StandsAt, Unused, Used}
-use Rattle.aeth_running.proofs.FabricSessions.{Before, Behind, Ordered, Same, placed-known}
-use Rattle.aeth_running.proofs.GoingSessions.{GoesNow}
-use Rattle.aeth_running.proofs.KeptLanes.{cycle-behind, kept_of, lanes-kept}
-use Rattle.aeth_running.proofs.NetworkLaws.{CycleLaws}
-use Rattle.aeth_running.proofs.Preparing.{prepares}
-use Rattle.aeth_running.proofs.ReadyChannels.{IsReady, ready}
-use Rattle.aeth_running.proofs.ReadySound.{ready-sound}
-use Rattle.aeth_running.proofs.RoutedNetworks.{tables-routed}
-use Rattle.aeth_running.proofs.RouterTables.{HaveTables, tables-behind, tables-ready}
-use Rattle.aeth_running.proofs.RunningCycles.{running-on}
+use Rattle.aeth_schedule.specs.{Goings.goings_of, Values.values_of, declared.going.Going.Going}
+use Rattle.aeth_invariant.specs.{Events.AreEvents, Places.ArePlaced, Running.Prepares}
+use Rattle.aeth_running.proofs.{ChannelStates.HasChannel, ChannelStates.StandsAt}
+use Rattle.aeth_running.proofs.{ChannelStates.Unused, ChannelStates.Used, FabricSessions.Before}
+use Rattle.aeth_running.proofs.{FabricSessions.Behind, FabricSessions.Ordered, FabricSessions.Same}
+use Rattle.aeth_running.proofs.{FabricSessions.placed-known, GoingSessions.GoesNow}
+use Rattle.aeth_running.proofs.{KeptLanes.cycle-behind, KeptLanes.kept_of, KeptLanes.lanes-kept}
+use Rattle.aeth_running.proofs.{NetworkLaws.CycleLaws, Preparing.prepares, ReadyChannels.IsReady}
+use Rattle.aeth_running.proofs.{ReadyChannels.ready, ReadySound.ready-sound}
+use Rattle.aeth_running.proofs.{RoutedNetworks.tables-routed, RouterTables.HaveTables}
+use Rattle.aeth_running.proofs.{RouterTables.tables-behind, RouterTables.tables-ready}
+use Rattle.aeth_running.proofs.{RunningCycles.running-on}
 use Rattle.aeth_running.specs.FirstLog.{first_log}
-use Rattle.aeth_stimuli.specs.Events.{events_in}
-use Rattle.aeth_running.specs.Network.{NetworkState, ready_in}
-use Rattle.aeth_stimuli.specs.Loaded.{loaded_components}
-use Rattle.aeth_running.specs.Network.{state_behind}
-use Rattle.aeth_running.specs.Network.{stepped}
+use Rattle.aeth_running.specs.Network.{NetworkState, ready_in, state_behind, stepped}
 use Rattle.aeth_running.specs.Routing.{IsRoutingFor, Routing, entered_with, enterings_in, kind_of}
 use Rattle.aeth_running.specs.Routing.{rows_at, rows_before}
 use Rattle.aeth_running.specs.Running.{IsLatest, IsRunning}
-use Rattle.aeth_stimuli.specs.Sessions.{channel_of, first_of}
-use Rattle.aeth_stimuli.specs.Stimuli.{Stimuli, stimuli_of}
+use Rattle.aeth_stimuli.specs.{Events.events_in, Loaded.loaded_components, Sessions.channel_of}
+use Rattle.aeth_stimuli.specs.{Sessions.first_of, Stimuli.Stimuli, Stimuli.stimuli_of}
 
 -- A network of these inputs that runs.
 pub record Plays (inputs : Inputs) (routing : Routing) (network : NetworkState) : Type 0 where

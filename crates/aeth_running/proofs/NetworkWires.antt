@@ -3,20 +3,16 @@
 use Rattle.std.proofs.Common.{◌≡◌, ◌≤◌, ◌<◌, ◌+◌, ◌-◌, ◌∙◌, ℕ, [], Option, Some, None, suc, refl}
 use Rattle.std.proofs.Common.{sym, ap, arith}
 use Rattle.std.specs.Option.{option_to_list}
-use Rattle.aeth_clocked.specs.Wires.{flit_on}
-use Rattle.aeth_clocked.specs.declared.flit.Flit.{Flit}
+use Rattle.aeth_clocked.specs.{Wires.flit_on, declared.flit.Flit.Flit}
 use Rattle.aeth_components.specs.View.{queue_of}
 use Rattle.aeth_server.specs.PrivateServer.{landed, taken}
-use Rattle.aeth_refinement.specs.Carried.{Exact, words_from}
-use Rattle.aeth_refinement.specs.Carries.{carries}
-use Rattle.aeth_refinement.specs.Fabric.{Owns, flow_at, server_at}
-use Rattle.aeth_refinement.specs.Standing.{Stands}
+use Rattle.aeth_refinement.specs.{Carried.Exact, Carried.words_from, Carries.carries, Fabric.Owns}
+use Rattle.aeth_refinement.specs.{Fabric.flow_at, Fabric.server_at, Standing.Stands}
 use Rattle.aeth_invariant.specs.View.{net_of}
 use Rattle.aeth_accepted.specs.Inputs.{Inputs}
 use Rattle.aeth_fabric.specs.Fabric.{fabric_of}
-use Rattle.aeth_running.specs.Network.{first_network, played}
-use Rattle.aeth_running.specs.Running.{IsRunning}
-use Rattle.aeth_running.specs.Routing.{Routing}
+use Rattle.aeth_running.specs.{Network.first_network, Network.played, Running.IsRunning}
+use Rattle.aeth_running.specs.{Routing.Routing}
 
 -- What lists nothing is nothing.
 pub nothing-listed : {X : Type 0} (x : Option X) → option_to_list x ≡ [] → x ≡ None

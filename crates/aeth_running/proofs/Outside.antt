@@ -1,17 +1,14 @@
 -- The words of a channel that no session takes, and those that are counted for it, offer by offer.
-use Rattle.std.proofs.Common.{◌≡◌, ◌<◌, ◌∙◌, ℕ, suc, ◌+◌, ◌&&◌, Bool, true, false, List, []}
-use Rattle.std.proofs.Common.{◌∷◌, cond, filter, fold, length, map, not, sym, ap, inl, inr, arith}
-use Rattle.std.specs.Prelude.{◌==◌, nat_lt, slice_index, slice_set}
-use Rattle.std.proofs.lemmas.Bool.{cases_Bool, cases_order, eq-eqb, eqb-false, eqb-true, le-ltb, lt-ltb}
-use Rattle.std.proofs.lemmas.Bool.{ne_eqb}
-use Rattle.std.proofs.lemmas.List.{get_or-set_other, get_or-set_same, length-set}
+use Rattle.std.proofs.Common.{◌≡◌, ◌<◌, ◌∙◌, ℕ, suc, ◌+◌, ◌&&◌, Bool, true, false, List, [], ◌∷◌}
+use Rattle.std.proofs.Common.{cond, filter, fold, length, map, not, sym, ap, inl, inr, arith, ◌==◌}
+use Rattle.std.proofs.Common.{nat_lt, slice_index, slice_set, eq-eqb, eqb-true, le-ltb, lt-ltb}
+use Rattle.std.proofs.Common.{ne_eqb, get_or-set_other, get_or-set_same, length-set}
+use Rattle.std.proofs.lemmas.Bool.{cases_Bool, cases_order, eqb-false}
 use Rattle.aeth_base.specs.declared.ids.Channel.{Channel}
-use Rattle.aeth_trace.specs.Channels.{channel_number, is_channel}
-use Rattle.aeth_trace.specs.Words.{words_on}
-use Rattle.aeth_trace.specs.declared.words.WordRow.{WordRow}
-use Rattle.aeth_running.specs.Network.{outside_with}
+use Rattle.aeth_trace.specs.{Channels.channel_number, Channels.is_channel, Words.words_on}
+use Rattle.aeth_trace.specs.{declared.words.WordRow.WordRow}
+use Rattle.aeth_running.{specs.Network.outside_with, proofs.ChannelsByNumber.number-test}
 use Rattle.aeth_stimuli.specs.Stimuli.{Offer, offer_of}
-use Rattle.aeth_running.proofs.ChannelsByNumber.{number-test}
 
 -- A list is written, or an item is counted.
 chosen : {X : Type 0} (c : Bool) (f : List ℕ → ℕ) (kept written : List ℕ) (n : ℕ) (x : X) (xs : List X)

@@ -1,23 +1,20 @@
 -- The words of a channel that are told to be outside of all its sessions.
-use Rattle.std.proofs.Common.{◌≡◌, ◌≤◌, ◌<◌, ◌∙◌, ℕ, zero, suc, ◌+◌, ◌*◌, ◌&&◌, Bool, List, []}
-use Rattle.std.proofs.Common.{◌∷◌, filter, fold, length, not, refl, sym, ap, inl, inr, arith}
-use Rattle.std.specs.Prelude.{nat_lt, slice_index, slice_set}
+use Rattle.std.proofs.Common.{◌≡◌, ◌≤◌, ◌<◌, ◌∙◌, ℕ, zero, suc, ◌+◌, ◌*◌, ◌&&◌, Bool, List, [], ◌∷◌}
+use Rattle.std.proofs.Common.{filter, fold, length, not, refl, sym, ap, inl, inr, arith, nat_lt}
+use Rattle.std.proofs.Common.{slice_index, slice_set, le-ltb, length-set}
+use Rattle.std.proofs.lemmas.Bool.{cases_Bool}
+use Rattle.std.proofs.lemmas.List.{get_or-replicate, length-replicate, Sums.length-filter}
 use Rattle.std.specs.List.{list_any}
-use Rattle.std.proofs.lemmas.Bool.{cases_Bool, le-ltb}
-use Rattle.std.proofs.lemmas.List.{get_or-replicate, length-replicate, length-set}
-use Rattle.std.proofs.lemmas.List.Sums.{length-filter}
 use Rattle.aeth_base.specs.declared.ids.Channel.{Channel}
-use Rattle.aeth_trace.specs.Channels.{channel_number}
-use Rattle.aeth_trace.specs.Words.{words_on}
-use Rattle.aeth_trace.specs.declared.words.WordRow.{WordRow}
-use Rattle.aeth_report.specs.Flows.{flows_on}
-use Rattle.aeth_report.specs.RunLog.{is_accepted, outside_of}
+use Rattle.aeth_trace.specs.{Channels.channel_number, Words.words_on}
+use Rattle.aeth_trace.specs.{declared.words.WordRow.WordRow}
+use Rattle.aeth_report.specs.{Flows.flows_on, RunLog.is_accepted, RunLog.outside_of}
 use Rattle.aeth_accepted.specs.Inputs.{Inputs, run_of}
 use Rattle.aeth_running.specs.Network.{first_network, offers_in, outside_with, played, untils_in}
-use Rattle.aeth_stimuli.specs.Stimuli.{Offer, stimuli_of}
+use Rattle.aeth_running.specs.Routing.{Routing}
 use Rattle.aeth_running.proofs.Outside.{counted-outside, lost-next, lost_in}
 use Rattle.aeth_running.proofs.Played.{outside-first, outside-next}
-use Rattle.aeth_running.specs.Routing.{Routing}
+use Rattle.aeth_stimuli.specs.Stimuli.{Offer, stimuli_of}
 
 -- Counting words leaves as many counts.
 pub length-all_outside : (t : ℕ) (untils : List ℕ) (offers : List Offer) (outside : List ℕ)

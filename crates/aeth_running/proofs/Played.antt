@@ -1,17 +1,15 @@
 -- A network behind some cycles: what never changes of it, and what a cycle adds beside its components.
-use Rattle.std.proofs.Common.{◌≡◌, ◌∙◌, ℕ, zero, suc, ◌+◌, ◌*◌, [], ◌++◌, length, map, refl, ap, arith}
-use Rattle.std.proofs.Common.{replicate}
+use Rattle.std.proofs.Common.{◌≡◌, ◌∙◌, ℕ, zero, suc, ◌+◌, ◌*◌, [], ◌++◌, length, map, refl, ap}
+use Rattle.std.proofs.Common.{arith, replicate}
 use Rattle.std.specs.List.{slice_index_or}
 use Rattle.aeth_trace.specs.Channels.{channel_number}
 use Rattle.aeth_components.specs.declared.lane.Lane.{Lane}
 use Rattle.aeth_accepted.specs.Inputs.{Inputs}
 use Rattle.aeth_schedule.specs.declared.going.Going.{Going}
-use Rattle.aeth_running.specs.FirstLog.{first_log}
-use Rattle.aeth_running.specs.Network.{NetworkState, first_network, goings_in, outside_in}
-use Rattle.aeth_stimuli.specs.Loaded.{no_lane}
-use Rattle.aeth_running.specs.Network.{played, stepped, untils_in}
-use Rattle.aeth_stimuli.specs.Stimuli.{stimuli_of}
-use Rattle.aeth_running.specs.Routing.{Routing}
+use Rattle.aeth_running.specs.{FirstLog.first_log, Network.NetworkState, Network.first_network}
+use Rattle.aeth_running.specs.{Network.goings_in, Network.outside_in, Network.played}
+use Rattle.aeth_running.specs.{Network.stepped, Network.untils_in, Routing.Routing}
+use Rattle.aeth_stimuli.specs.{Loaded.no_lane, Stimuli.stimuli_of}
 
 -- One cycle more.
 pub played-next : (all : NetworkState) (t : ℕ) → played (t + 1) all ≡ stepped (played t all)

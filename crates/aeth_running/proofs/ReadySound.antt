@@ -1,36 +1,27 @@
 -- Channels that are ready for a cycle are sound: each has room for the words that it has accepted.
 use Rattle.std.proofs.Common.{◌≡◌, ◌≤◌, ◌<◌, ◌∙◌, ◌+◌, ◌*◌, ℕ, List, [], ◌∷◌, Some, get_or, length}
-use Rattle.std.proofs.Common.{slice_get}
-use Rattle.std.proofs.Common.{sym, ap, subst, arith}
-use Rattle.std.specs.Prelude.{◌==◌, nat_lt}
-use Rattle.std.specs.List.{All}
-use Rattle.std.proofs.lemmas.List.{length-map}
-use Rattle.std.proofs.lemmas.List.Elements.{All-filter, All-head}
-use Rattle.std.proofs.lemmas.List.Sums.{count_by-le-length, length-filter}
+use Rattle.std.proofs.Common.{slice_get, sym, ap, subst, arith, ◌==◌, nat_lt}
+use Rattle.std.proofs.lemmas.List.{length-map, Elements.All-filter, Elements.All-head}
+use Rattle.std.proofs.lemmas.List.{Sums.count_by-le-length, Sums.length-filter}
 use Rattle.std.proofs.lemmas.Option.{same_Some, slice_get-get_or}
+use Rattle.std.specs.List.{All}
 use Rattle.aeth_base.specs.declared.ids.Channel.{Channel}
 use Rattle.aeth_trace.specs.Channels.{channel_number}
-use Rattle.aeth_components.specs.Components.{IsComponents, frames_of}
-use Rattle.aeth_components.specs.Frames.{Frame, IsWired, frame_of}
-use Rattle.aeth_components.specs.Lanes.{IsLane}
-use Rattle.aeth_components.specs.declared.lane.Lane.{Lane}
+use Rattle.aeth_components.specs.{Components.IsComponents, Components.frames_of, Frames.Frame}
+use Rattle.aeth_components.specs.{Frames.IsWired, Frames.frame_of, Lanes.IsLane}
+use Rattle.aeth_components.specs.{declared.lane.Lane.Lane}
 use Rattle.aeth_server.specs.PrivateServer.{accepted, arrived}
-use Rattle.aeth_refinement.specs.Accepted.{IsAccepted}
-use Rattle.aeth_refinement.specs.Fabric.{server_at}
+use Rattle.aeth_refinement.specs.{Accepted.IsAccepted, Fabric.server_at}
 use Rattle.aeth_accepted.specs.Inputs.{Inputs}
 use Rattle.aeth_fabric.specs.Fabric.{fabric_of}
-use Rattle.aeth_schedule.specs.Goings.{goings_of}
-use Rattle.aeth_schedule.specs.Values.{before_of, start_of}
-use Rattle.aeth_schedule.specs.declared.going.Going.{Going}
-use Rattle.aeth_invariant.proofs.Routed.{frames-but_tables}
-use Rattle.aeth_invariant.specs.Places.{ArePlaced}
-use Rattle.aeth_running.proofs.ChannelNumbers.{channel-of}
-use Rattle.aeth_running.proofs.ChannelStates.{StandsAt, Unused, Used}
-use Rattle.aeth_running.proofs.FabricSessions.{session_at}
-use Rattle.aeth_running.proofs.GoingSessions.{going_now}
-use Rattle.aeth_running.proofs.LaneLookups.{length-lanes_in}
-use Rattle.aeth_running.proofs.ReadyChannels.{IsChanged, IsReady, Loads, Stays}
-use Rattle.aeth_running.proofs.RouterTables.{but-entered}
+use Rattle.aeth_schedule.specs.{Goings.goings_of, Values.before_of, Values.start_of}
+use Rattle.aeth_schedule.specs.{declared.going.Going.Going}
+use Rattle.aeth_invariant.{proofs.Routed.frames-but_tables, specs.Places.ArePlaced}
+use Rattle.aeth_running.proofs.{ChannelNumbers.channel-of, ChannelStates.StandsAt}
+use Rattle.aeth_running.proofs.{ChannelStates.Unused, ChannelStates.Used, FabricSessions.session_at}
+use Rattle.aeth_running.proofs.{GoingSessions.going_now, LaneLookups.length-lanes_in}
+use Rattle.aeth_running.proofs.{ReadyChannels.IsChanged, ReadyChannels.IsReady, ReadyChannels.Loads}
+use Rattle.aeth_running.proofs.{ReadyChannels.Stays, RouterTables.but-entered}
 use Rattle.aeth_running.specs.Network.{NetworkState, goings_in, ready_in, untils_in}
 use Rattle.aeth_running.specs.Routing.{enterings_in}
 use Rattle.aeth_stimuli.specs.Sessions.{SessionGoing, first_of}

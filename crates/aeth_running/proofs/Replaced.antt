@@ -1,27 +1,20 @@
 -- How channels stood before each session went.
-use Rattle.std.proofs.Common.{◌≡◌, ◌∙◌, ℕ, zero, suc, ◌+◌, List, [], ◌∷◌, ◌++◌, drop, filter, map, sym}
-use Rattle.std.proofs.Common.{ap, arith}
-use Rattle.std.specs.Prelude.{◌==◌, nat_lt}
-use Rattle.std.specs.List.{slice_index_or, zip}
-use Rattle.std.specs.List.Sorted.{IsNonDecreasingBy}
-use Rattle.std.proofs.lemmas.Bool.{eqb-true}
+use Rattle.std.proofs.Common.{◌≡◌, ◌∙◌, ℕ, zero, suc, ◌+◌, List, [], ◌∷◌, ◌++◌, drop, filter, map}
+use Rattle.std.proofs.Common.{sym, ap, arith, ◌==◌, nat_lt, eqb-true}
 use Rattle.std.proofs.lemmas.List.{map-append}
+use Rattle.std.specs.List.{slice_index_or, zip, Sorted.IsNonDecreasingBy}
 use Rattle.aeth_trace.specs.Channels.{channel_number}
 use Rattle.aeth_components.specs.declared.lane.Lane.{Lane}
 use Rattle.aeth_accepted.specs.Inputs.{Inputs}
-use Rattle.aeth_schedule.specs.Goings.{goings_of}
-use Rattle.aeth_schedule.specs.declared.going.Going.{Going}
-use Rattle.aeth_stimuli.specs.Stimuli.{goings_over}
-use Rattle.aeth_running.specs.Network.{first_network, played}
-use Rattle.aeth_stimuli.specs.Loaded.{no_lane}
-use Rattle.aeth_stimuli.specs.Stimuli.{is_over}
+use Rattle.aeth_schedule.specs.{Goings.goings_of, declared.going.Going.Going}
+use Rattle.aeth_stimuli.specs.{Stimuli.goings_over, Stimuli.is_over, Loaded.no_lane}
 use Rattle.aeth_stimuli.proofs.WordWindows.{below-none}
-use Rattle.aeth_running.specs.Told.{last_lanes}
+use Rattle.aeth_running.specs.{Network.first_network, Network.played, Told.last_lanes}
+use Rattle.aeth_running.specs.{Routing.Routing}
 use Rattle.aeth_running.proofs.Accepting.{shown-beside}
-use Rattle.aeth_base.proofs.Filters.{filter-again}
 use Rattle.aeth_running.proofs.InOrder.{below, below-next, map-kept}
 use Rattle.aeth_running.proofs.Played.{played-stimuli, replaced-first, replaced-next}
-use Rattle.aeth_running.specs.Routing.{Routing}
+use Rattle.aeth_base.proofs.Filters.{filter-again}
 
 -- When a session goes.
 abbrev pub go_of : Going → ℕ

@@ -1,39 +1,33 @@
 -- What a network of accepted inputs is behind a cycle that it is still in.
 use Rattle.std.proofs.Common.{◌≡◌, ◌<◌, ◌∙◌, ◌+◌, ◌++◌, ℕ, zero, suc, List, [], None, Some, ap}
-use Rattle.std.proofs.Common.{arith, fold, inl, inr, length, map, slice_get, sym}
-use Rattle.std.specs.List.{slice_index_or}
+use Rattle.std.proofs.Common.{arith, fold, inl, inr, length, map, slice_get, sym, append-nil}
 use Rattle.std.proofs.lemmas.Bool.{cases_Bool}
-use Rattle.std.proofs.lemmas.List.{append-nil}
+use Rattle.std.specs.List.{slice_index_or}
 use Rattle.aeth_clocked.specs.Wires.{flit_on}
 use Rattle.aeth_ni.specs.Interface.{InterfaceState}
 use Rattle.aeth_router.specs.declared.part.Part.TheVariants.{Interface}
 use Rattle.aeth_trace.specs.Channels.{channel_number}
 use Rattle.aeth_components.proofs.FrameLemmas.{length-wires_driven}
 use Rattle.aeth_components.proofs.TurnLemmas.{drawn_out-none, pulled-closed, pulled-open}
-use Rattle.aeth_components.specs.Components.{ComponentsState, moment_of}
-use Rattle.aeth_components.specs.Components.{wires_driven}
-use Rattle.aeth_components.specs.Lanes.{is_open}
-use Rattle.aeth_components.specs.Phases.{Moment, pulled, refilled}
-use Rattle.aeth_components.specs.declared.lane.Lane.{Lane}
+use Rattle.aeth_components.specs.{Components.ComponentsState, Components.moment_of}
+use Rattle.aeth_components.specs.{Components.wires_driven, Lanes.is_open, Phases.Moment}
+use Rattle.aeth_components.specs.{Phases.pulled, Phases.refilled, declared.lane.Lane.Lane}
 use Rattle.aeth_accepted.specs.Inputs.{Inputs}
 use Rattle.aeth_invariant.proofs.Routed.{interface-there}
-use Rattle.aeth_schedule.specs.Rooms.{rooms_of}
-use Rattle.aeth_schedule.specs.Switching.{loaded_of}
-use Rattle.aeth_schedule.specs.declared.going.Going.{Going}
-use Rattle.aeth_stimuli.specs.Loaded.{no_lane}
-use Rattle.aeth_stimuli.specs.Stimuli.{Offer}
+use Rattle.aeth_schedule.specs.{Rooms.rooms_of, Switching.loaded_of, declared.going.Going.Going}
+use Rattle.aeth_stimuli.specs.{Loaded.no_lane, Stimuli.Offer}
 use Rattle.aeth_running.proofs.LastFlits.{last-latched, last-loaded}
 use Rattle.aeth_running.proofs.Played.{played-next, played-routing, played-time}
 use Rattle.aeth_running.proofs.RestingNetworks.{stepped-components}
 use Rattle.aeth_running.proofs.RestingParts.{drives-rest, lands-none, latches-rest}
 use Rattle.aeth_running.proofs.RestingStates.{both-empty, in_turn-rests, state-rests}
+use Rattle.aeth_running.proofs.RouterTables.{but-first}
 use Rattle.aeth_running.specs.Network.{NetworkState, first_network, played, ready_in, state_behind}
 use Rattle.aeth_running.specs.Network.{accepted_with, gone_with, goings_in, offers_in, outside_in}
 use Rattle.aeth_running.specs.Network.{outside_with, stepped, takes_in, taking_with, until_with}
 use Rattle.aeth_running.specs.Network.{untils_in}
 use Rattle.aeth_running.specs.Running.{IsServing}
 use Rattle.aeth_running.specs.Still.{IsStill, passed_over}
-use Rattle.aeth_running.proofs.RouterTables.{but-first}
 use Rattle.aeth_running.specs.Routing.{Entering, Routing, entered_with, enterings_in}
 
 -- Where the wires are empty interfaces tell of no last flit.

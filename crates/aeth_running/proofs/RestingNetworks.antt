@@ -1,53 +1,36 @@
 -- A network of accepted inputs in an idle cycle: refilling hands nothing on.
-use Rattle.std.proofs.Common.{◌≡◌, ◌≤◌, ◌<◌, ◌⊎◌, ◌∙◌, ◌+◌, ◌-◌, ℕ, suc, Contains, List, []}
-use Rattle.std.proofs.Common.{◌∷◌, None, Option, Some, ap, arith, filter, inl, inr, length, map, min}
-use Rattle.std.proofs.Common.{refl, slice_get, subst, sym}
-use Rattle.std.specs.Prelude.{nat_le, nat_lt, ◌&&◌}
-use Rattle.std.proofs.lemmas.Bool.{cases_Bool, cases_lt, cases_order, le-ltb, lt-ltb}
-use Rattle.std.proofs.lemmas.Option.{same_Some}
+use Rattle.std.proofs.Common.{◌≡◌, ◌≤◌, ◌<◌, ◌⊎◌, ◌∙◌, ◌+◌, ◌-◌, ℕ, suc, Contains, List, [], ◌∷◌}
+use Rattle.std.proofs.Common.{None, Option, Some, ap, arith, filter, inl, inr, length, map, min}
+use Rattle.std.proofs.Common.{refl, slice_get, subst, sym, nat_le, nat_lt, ◌&&◌, le-ltb, lt-ltb}
+use Rattle.std.proofs.lemmas.{Bool.cases_Bool, Bool.cases_lt, Bool.cases_order, Option.same_Some}
 use Rattle.aeth_base.proofs.Members.{Contains-here, Contains-there, filter-Contains, map-Contains}
-use Rattle.aeth_clocked.specs.Wires.{flit_on}
-use Rattle.aeth_clocked.specs.declared.flit.Flit.{Flit}
-use Rattle.aeth_ni.specs.Limits.{waiting_words}
-use Rattle.aeth_ni.specs.Queue.{QueueState}
+use Rattle.aeth_clocked.specs.{Wires.flit_on, declared.flit.Flit.Flit}
+use Rattle.aeth_ni.specs.{Limits.waiting_words, Queue.QueueState}
 use Rattle.aeth_server.proofs.SessionEnds.{idle-before}
 use Rattle.aeth_server.specs.FinishTimes.{arrivals_before}
 use Rattle.aeth_server.specs.PrivateServer.{PrivateServer, arrived, sent}
-use Rattle.aeth_trace.specs.declared.words.WordRow.{WordRow}
-use Rattle.aeth_trace.specs.Channels.{is_channel}
+use Rattle.aeth_trace.specs.{declared.words.WordRow.WordRow, Channels.is_channel}
 use Rattle.aeth_components.proofs.TurnLemmas.{refilled-closed, refilled-none, refilled-open}
-use Rattle.aeth_components.specs.Changes.{switched}
-use Rattle.aeth_components.specs.Components.{ComponentsState, Cycle}
-use Rattle.aeth_components.specs.Frames.{frame_of}
-use Rattle.aeth_components.specs.Lanes.{is_open}
-use Rattle.aeth_components.specs.Phases.{left_of, refilled}
-use Rattle.aeth_components.specs.View.{queue_of as queue_in_parts}
-use Rattle.aeth_components.specs.declared.event.Event.{Event}
-use Rattle.aeth_components.specs.declared.lane.Lane.{Lane}
+use Rattle.aeth_components.specs.{Changes.switched, Components.ComponentsState, Components.Cycle}
+use Rattle.aeth_components.specs.{Frames.frame_of, Lanes.is_open, Phases.left_of, Phases.refilled}
+use Rattle.aeth_components.specs.{View.queue_of as queue_in_parts, declared.event.Event.Event}
+use Rattle.aeth_components.specs.{declared.lane.Lane.Lane}
 use Rattle.aeth_router.specs.declared.part.Part.{Part}
-use Rattle.aeth_refinement.specs.Accepted.{IsAccepted}
-use Rattle.aeth_refinement.specs.Fabric.{Fabric, IsGoing, Owns, server_at}
-use Rattle.aeth_refinement.specs.Switches.{Switched}
-use Rattle.aeth_refinement.proofs.Owning.{waiting-length}
-use Rattle.aeth_refinement.proofs.Unique.{paths-of}
+use Rattle.aeth_refinement.specs.{Accepted.IsAccepted, Fabric.Fabric, Fabric.IsGoing, Fabric.Owns}
+use Rattle.aeth_refinement.specs.{Fabric.server_at, Switches.Switched}
+use Rattle.aeth_refinement.proofs.{Owning.waiting-length, Unique.paths-of}
 use Rattle.aeth_accepted.specs.Inputs.{Inputs, run_of}
 use Rattle.aeth_fabric.specs.Fabric.{fabric_of, placed_at}
-use Rattle.aeth_stimuli.specs.Sessions.{channel_of}
-use Rattle.aeth_stimuli.specs.Stimuli.{stimuli_of}
-use Rattle.aeth_stimuli.specs.Events.{events_in}
-use Rattle.aeth_invariant.specs.Events.{AreEvents}
-use Rattle.aeth_invariant.specs.Following.{Follows}
-use Rattle.aeth_invariant.specs.Framed.{IsFramed}
-use Rattle.aeth_invariant.specs.Served.{handed_after}
-use Rattle.aeth_invariant.specs.View.{net_of}
+use Rattle.aeth_stimuli.specs.{Sessions.channel_of, Stimuli.stimuli_of, Events.events_in}
+use Rattle.aeth_invariant.specs.{Events.AreEvents, Following.Follows, Framed.IsFramed}
+use Rattle.aeth_invariant.specs.{Served.handed_after, View.net_of}
 use Rattle.aeth_running.proofs.KeptLanes.{cycle-behind}
 use Rattle.aeth_running.proofs.NetworkWires.{exact}
 use Rattle.aeth_running.proofs.Played.{played-next, played-stimuli, played-time}
 use Rattle.aeth_running.proofs.SettledQueues.{handed-full, handed_on-full, sent-same}
-use Rattle.aeth_running.specs.Network.{NetworkState, first_network, played, ready_in, state_behind}
-use Rattle.aeth_running.specs.Network.{stepped}
-use Rattle.aeth_running.specs.Running.{IsRunning, IsServing}
-use Rattle.aeth_running.specs.Routing.{Routing}
+use Rattle.aeth_running.specs.{Network.NetworkState, Network.first_network, Network.played}
+use Rattle.aeth_running.specs.{Network.ready_in, Network.state_behind, Network.stepped}
+use Rattle.aeth_running.specs.{Running.IsRunning, Running.IsServing, Routing.Routing}
 
 -- Where no word is offered in a cycle, none arrives in it.
 same-arrivals : (t : ℕ) (xs : List ℕ) → ((a : ℕ) → Contains xs a → a ≡ t → ⊥)

@@ -2,8 +2,7 @@
 use Rattle.std.proofs.Common.{◌≡◌, ◌∙◌, ℕ, List, Option, Some, None, ap, arith, length, map, refl}
 use Rattle.std.proofs.Common.{slice_get}
 use Rattle.std.specs.Option.{option_map_or}
-use Rattle.aeth_clocked.specs.Wires.{flit_on}
-use Rattle.aeth_clocked.specs.declared.flit.Flit.{Flit}
+use Rattle.aeth_clocked.specs.{Wires.flit_on, declared.flit.Flit.Flit}
 use Rattle.aeth_ni.proofs.RestingLemmas.{RestsDrive-interface, RestsLatch-interface}
 use Rattle.aeth_ni.specs.Interface.{InterfaceState}
 use Rattle.aeth_router.proofs.RestingLemmas.{RestsDrive-router, RestsDrive-stage, RestsDrive-table}
@@ -14,11 +13,9 @@ use Rattle.aeth_router.specs.Stage.{StageState}
 use Rattle.aeth_router.specs.TableRouter.{TableRouterState}
 use Rattle.aeth_router.specs.declared.part.Part.{Part}
 use Rattle.aeth_router.specs.declared.part.Part.TheVariants.{Interface, Router, Stage, TableRouter}
-use Rattle.aeth_components.specs.Components.{wires_driven}
-use Rattle.aeth_components.specs.Counting.{brings}
-use Rattle.aeth_components.specs.Frames.{IsWired, frame_of}
-use Rattle.aeth_components.specs.Queues.{brought_by, words_for}
-use Rattle.aeth_components.specs.declared.lane.Lane.{Lane}
+use Rattle.aeth_components.specs.{Components.wires_driven, Counting.brings, Frames.IsWired}
+use Rattle.aeth_components.specs.{Frames.frame_of, Queues.brought_by, Queues.words_for}
+use Rattle.aeth_components.specs.{declared.lane.Lane.Lane}
 use Rattle.aeth_invariant.specs.View.{HaveLatched}
 use Rattle.aeth_running.proofs.MuteParts.{held-none, places, sent-none, table-none, table-places}
 

@@ -1,17 +1,15 @@
 -- Components that a cycle leaves as they are: none of its phases changes anything.
-use Rattle.std.proofs.Common.{◌≡◌, ◌∙◌, ℕ, suc, List, [], ◌∷◌, Option, Some, None}
-use Rattle.std.proofs.Common.{ap, fold, length, map, refl, replicate, set, slice_get, sym}
+use Rattle.std.proofs.Common.{◌≡◌, ◌∙◌, ℕ, suc, List, [], ◌∷◌, Option, Some, None, ap, fold, length}
+use Rattle.std.proofs.Common.{map, refl, replicate, set, slice_get, sym}
+use Rattle.std.proofs.lemmas.{List.set-get_or, Option.get_or_from_slice_get}
 use Rattle.std.specs.List.{range_with_len}
-use Rattle.std.proofs.lemmas.List.{set-get_or}
-use Rattle.std.proofs.lemmas.Option.{get_or_from_slice_get}
-use Rattle.aeth_clocked.specs.Wires.{flit_on}
+use Rattle.aeth_clocked.specs.{Wires.flit_on, declared.flit.Flit.Flit}
 use Rattle.aeth_clocked.proofs.ClearLemmas.{all-empty}
-use Rattle.aeth_clocked.specs.declared.flit.Flit.{Flit}
-use Rattle.aeth_router.specs.Part.{absorb_of, after_of}
-use Rattle.aeth_router.specs.declared.part.Part.{Part}
+use Rattle.aeth_router.specs.{Part.absorb_of, Part.after_of, declared.part.Part.Part}
 use Rattle.aeth_components.proofs.CountingLemmas.{counted-still, noted-still}
-use Rattle.aeth_components.specs.Components.{ComponentsState, components_of, driven_from, latched_from}
-use Rattle.aeth_components.specs.Components.{latched_of, moment_of, ready_of, wires_driven}
+use Rattle.aeth_components.specs.Components.{ComponentsState, components_of, driven_from}
+use Rattle.aeth_components.specs.Components.{latched_from, latched_of, moment_of, ready_of}
+use Rattle.aeth_components.specs.Components.{wires_driven}
 use Rattle.aeth_components.specs.Counting.{brings, counted, flits_counted, noted, with_flit}
 use Rattle.aeth_components.specs.Phases.{Moment, in_turn, pulled, refilled, turned, turned_at}
 use Rattle.aeth_components.specs.Phases.{turned_by}

@@ -1,39 +1,33 @@
 -- Routers whose tables have the rows in force are routed as a fabric asks.
-use Rattle.std.proofs.Common.{◌≡◌, ◌<◌, ◌∙◌, ◌+◌, ◌*◌, ◌%◌, ℕ, All, true, List, []}
-use Rattle.std.proofs.Common.{◌∷◌, None, Option, Some, ap, arith, filter, fold, get_or, inl, inr}
-use Rattle.std.proofs.Common.{length, map, refl, slice_get, sym}
-use Rattle.std.specs.Prelude.{◌==◌, ◌&&◌, if◌then◌else◌, nat_lt, option_and_then, option_map, position}
+use Rattle.std.proofs.Common.{◌≡◌, ◌<◌, ◌∙◌, ◌+◌, ◌*◌, ◌%◌, ℕ, All, true, List, [], ◌∷◌, None}
+use Rattle.std.proofs.Common.{Option, Some, ap, arith, filter, fold, get_or, inl, inr, length, map}
+use Rattle.std.proofs.Common.{refl, slice_get, sym, ◌==◌, ◌&&◌, if◌then◌else◌, nat_lt}
+use Rattle.std.proofs.Common.{option_and_then, option_map, position, eqb-true}
 use Rattle.std.proofs.Math.Nat.{mod-lt}
-use Rattle.std.proofs.lemmas.Bool.{and_parts, cases_Bool, eqb-true}
-use Rattle.std.proofs.lemmas.List.{length-replicate}
-use Rattle.std.proofs.lemmas.List.Sums.{count_by-le-length}
-use Rattle.std.proofs.lemmas.List.Elements.{All-filter, All-head, All-tail}
-use Rattle.std.proofs.lemmas.List.Quantifiers.{position-Some}
+use Rattle.std.proofs.lemmas.Bool.{and_parts, cases_Bool}
+use Rattle.std.proofs.lemmas.List.{length-replicate, Sums.count_by-le-length, Elements.All-filter}
+use Rattle.std.proofs.lemmas.List.{Elements.All-head, Elements.All-tail, Quantifiers.position-Some}
 use Rattle.std.proofs.lemmas.Option.{same_Some, slice_get-get_or, slice_get-map}
 use Rattle.aeth_base.specs.declared.ids.LinkId.{LinkId}
 use Rattle.aeth_chip.specs.Chip.{ChipData, IsChip}
 use Rattle.aeth_chip.specs.Nodes.{begins_at, ends_at, receives_on, sends_on}
-use Rattle.aeth_chip.specs.declared.node.Node.{Node}
-use Rattle.aeth_chip.specs.declared.node.Node.TheVariants.{Router}
+use Rattle.aeth_chip.specs.declared.node.Node.{Node, TheVariants.Router}
 use Rattle.aeth_chip.proofs.NodeLemmas.{length-numbers_from, numbers_from-once, same_node-true}
 use Rattle.aeth_chip.proofs.WireLemmas.{have_delays}
-use Rattle.aeth_router.proofs.LinkLemmas.{AreDistinctLinks-numbers_from, is_among-at, passes-from_is_among}
-use Rattle.aeth_router.proofs.LinkLemmas.{among-place, position-at}
-use Rattle.aeth_clocked.specs.declared.flit.Flit.{Flit}
+use Rattle.aeth_router.proofs.LinkLemmas.{AreDistinctLinks-numbers_from, is_among-at}
+use Rattle.aeth_router.proofs.LinkLemmas.{passes-from_is_among, among-place, position-at}
 use Rattle.aeth_router.proofs.RowLemmas.{entry-with_table, with_table-kept}
 use Rattle.aeth_router.specs.Router.{is_among, last_wire}
 use Rattle.aeth_router.specs.Rows.{AreRowsFor, IsRowFor, is_at, is_for, link_in, with_table}
 use Rattle.aeth_router.specs.TableRouter.{IsTableRouter, TableRouterState, new_table_router}
 use Rattle.aeth_router.specs.TableRouter.{place_from}
-use Rattle.aeth_router.specs.declared.part.Part.{Part}
-use Rattle.aeth_router.specs.declared.router_row.RouterRow.{RouterRow}
+use Rattle.aeth_router.specs.declared.{part.Part.Part, router_row.RouterRow.RouterRow}
+use Rattle.aeth_clocked.specs.declared.flit.Flit.{Flit}
 use Rattle.aeth_report.specs.Routes.{port_of}
 use Rattle.aeth_refinement.specs.Fabric.{AtRouter}
 use Rattle.aeth_accepted.specs.Inputs.{Inputs}
-use Rattle.aeth_fabric.specs.Fabric.{fabric_of}
-use Rattle.aeth_fabric.specs.Wiring.{node_end, start_of}
-use Rattle.aeth_fabric.proofs.WiredLemmas.{port_at}
-use Rattle.aeth_fabric.proofs.WireEnds.{first-starts}
+use Rattle.aeth_fabric.specs.{Fabric.fabric_of, Wiring.node_end, Wiring.start_of}
+use Rattle.aeth_fabric.proofs.{WiredLemmas.port_at, WireEnds.first-starts}
 use Rattle.aeth_invariant.specs.Routed.{AreRoutedBy, IsRoutedBy, table_from}
 use Rattle.aeth_running.proofs.RouterTables.{HaveTables, IsTableOf}
 use Rattle.aeth_running.specs.Routing.{AreRowsOn, Entering, IsRoutingFor, Routing, first_rows}

@@ -1,15 +1,12 @@
 -- The tables of routers in a network are those of the rows in force.
-use Rattle.std.proofs.Common.{◌≡◌, ◌∙◌, ◌+◌, ◌-◌, ◌*◌, ◌++◌, ℕ, zero, suc, List, [], ◌∷◌, None, Option}
-use Rattle.std.proofs.Common.{Some, ap, arith, filter, fold, inl, inr, length, map, refl, replicate, slice_get, subst, sym}
-use Rattle.std.specs.Prelude.{◌==◌, nat_lt}
+use Rattle.std.proofs.Common.{◌≡◌, ◌∙◌, ◌+◌, ◌-◌, ◌*◌, ◌++◌, ℕ, zero, suc, List, [], ◌∷◌, None}
+use Rattle.std.proofs.Common.{Option, Some, ap, arith, filter, fold, inl, inr, length, map, refl}
+use Rattle.std.proofs.Common.{replicate, slice_get, subst, sym, ◌==◌, nat_lt, length-set}
+use Rattle.std.proofs.lemmas.{Bool.cases_Bool, List.length-replicate, List.map-append}
+use Rattle.std.proofs.lemmas.{List.Elements.Contains-append_cases, List.Sums.fold-append}
 use Rattle.std.specs.List.{range_with_len}
-use Rattle.std.proofs.lemmas.Bool.{cases_Bool}
-use Rattle.std.proofs.lemmas.List.{length-replicate, length-set, map-append}
-use Rattle.std.proofs.lemmas.List.Elements.{Contains-append_cases}
-use Rattle.std.proofs.lemmas.List.Sums.{fold-append}
 use Rattle.aeth_base.proofs.Members.{Contains-slice_get, flat_map-Contains, map-Contains}
-use Rattle.aeth_chip.specs.Chip.{ChipData}
-use Rattle.aeth_chip.specs.Paths.{delay_of}
+use Rattle.aeth_chip.specs.{Chip.ChipData, Paths.delay_of}
 use Rattle.aeth_ni.specs.Interface.{InterfaceState}
 use Rattle.aeth_router.proofs.RowLemmas.{with_table-kept}
 use Rattle.aeth_router.specs.Router.{new_router}

@@ -5,14 +5,11 @@
 --   One, one-at      of items whose numbers differ one at most has a number
 --   map-one      a list whose image has one item
 use Rattle.std.proofs.Common.{◌≡◌, ◌≤◌, ◌<◌, ◌∙◌, ◌+◌, ◌++◌, ℕ, zero, suc, Bool, true, List, []}
-use Rattle.std.proofs.Common.{◌∷◌, Some, filter}
-use Rattle.std.proofs.Common.{map, slice_get, refl, sym, ap, inl, inr, arith}
-use Rattle.std.specs.Prelude.{◌==◌, nat_lt, All}
+use Rattle.std.proofs.Common.{◌∷◌, Some, filter, map, slice_get, refl, sym, ap, inl, inr, arith}
+use Rattle.std.proofs.Common.{◌==◌, nat_lt, All, eq-eqb, eqb-true, le-ltb, lt-ltb, ne_eqb}
+use Rattle.std.proofs.lemmas.{Bool.cases_Bool, Bool.cases_order, Bool.eqb-false}
+use Rattle.std.proofs.lemmas.{List.Elements.All-head, List.Elements.All-tail, Option.same_Some}
 use Rattle.std.specs.List.Sorted.{IsNonDecreasingBy}
-use Rattle.std.proofs.lemmas.Bool.{cases_Bool, cases_order, eq-eqb, eqb-false, eqb-true, le-ltb}
-use Rattle.std.proofs.lemmas.Bool.{lt-ltb, ne_eqb}
-use Rattle.std.proofs.lemmas.List.Elements.{All-head, All-tail}
-use Rattle.std.proofs.lemmas.Option.{same_Some}
 
 -- A filter whose items pass another test anyway.
 pub filter-within : {X : Type 0} (p q : X → Bool) → ((x : X) → p x ≡ true → q x ≡ true)

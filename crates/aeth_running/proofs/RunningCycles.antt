@@ -1,26 +1,19 @@
 -- A cycle of a network that runs: its components run behind it, and each channel has its session.
-use Rattle.std.proofs.Common.{◌≡◌, ◌<◌, ◌∙◌, ◌+◌, ℕ, List, Some, length, slice_get}
-use Rattle.std.proofs.Common.{sym, ap, subst, arith}
+use Rattle.std.proofs.Common.{◌≡◌, ◌<◌, ◌∙◌, ◌+◌, ℕ, List, Some, length, slice_get, sym, ap, subst}
+use Rattle.std.proofs.Common.{arith}
 use Rattle.aeth_base.specs.Limits.{max_cycles}
 use Rattle.aeth_clocked.specs.Wires.{flit_on}
 use Rattle.aeth_components.specs.Changes.{switched}
 use Rattle.aeth_components.specs.Components.{ComponentsState, Cycle, IsComponents}
-use Rattle.aeth_components.specs.declared.event.Event.{Event}
-use Rattle.aeth_components.specs.declared.lane.Lane.{Lane}
-use Rattle.aeth_refinement.specs.Accepted.{IsAccepted}
-use Rattle.aeth_refinement.specs.Carried.{Exact}
-use Rattle.aeth_refinement.specs.Fabric.{server_at}
+use Rattle.aeth_components.specs.declared.{event.Event.Event, lane.Lane.Lane}
+use Rattle.aeth_components.proofs.KeptLemmas.{lane-kept}
+use Rattle.aeth_refinement.specs.{Accepted.IsAccepted, Carried.Exact, Fabric.server_at}
 use Rattle.aeth_accepted.specs.Inputs.{Inputs}
 use Rattle.aeth_fabric.specs.Fabric.{fabric_of}
-use Rattle.aeth_components.proofs.KeptLemmas.{lane-kept}
 use Rattle.aeth_invariant.proofs.Routed.{frames-but_tables}
-use Rattle.aeth_invariant.specs.Events.{AreEvents}
-use Rattle.aeth_invariant.specs.Following.{Follows}
-use Rattle.aeth_invariant.specs.Places.{ArePlaced, HavePlaces}
-use Rattle.aeth_invariant.specs.Running.{Prepares}
-use Rattle.aeth_invariant.specs.Served.{handed_after}
-use Rattle.aeth_invariant.specs.Telling.{HasTold}
-use Rattle.aeth_invariant.specs.View.{net_of}
+use Rattle.aeth_invariant.specs.{Events.AreEvents, Following.Follows, Places.ArePlaced}
+use Rattle.aeth_invariant.specs.{Places.HavePlaces, Running.Prepares, Served.handed_after}
+use Rattle.aeth_invariant.specs.{Telling.HasTold, View.net_of}
 use Rattle.aeth_running.proofs.KeptLanes.{components-kept, cycle-behind, flits-kept, frames-kept}
 use Rattle.aeth_running.proofs.KeptLanes.{kept_of, lanes-kept, length-kept, wires-kept}
 use Rattle.aeth_running.proofs.NetworkLaws.{CycleLaws}

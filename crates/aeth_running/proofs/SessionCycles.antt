@@ -1,31 +1,26 @@
 -- The sessions of a channel, one after the other, and their numbers in the fabric of a run.
-use Rattle.std.proofs.Common.{◌≡◌, ◌≤◌, ◌<◌, ◌∙◌, ℕ, ◌+◌, List, Option, Some, None, length}
-use Rattle.std.proofs.Common.{max, slice_get, refl, sym, ap, inl, inr, arith}
-use Rattle.std.specs.Prelude.{option_map, slice_index_or, unwrap_or}
-use Rattle.std.specs.List.{AllPairs}
-use Rattle.std.specs.List.Sorted.{IsNonDecreasingBy}
+use Rattle.std.proofs.Common.{◌≡◌, ◌≤◌, ◌<◌, ◌∙◌, ℕ, ◌+◌, List, Option, Some, None, length, max}
+use Rattle.std.proofs.Common.{slice_get, refl, sym, ap, inl, inr, arith, option_map, slice_index_or}
+use Rattle.std.proofs.Common.{unwrap_or}
 use Rattle.std.proofs.lemmas.Bool.{cases_order}
 use Rattle.std.proofs.lemmas.Option.{get_or_from_slice_get, slice_get-get_or, slice_get-map}
 use Rattle.std.proofs.lemmas.Option.{slice_get_within}
+use Rattle.std.specs.List.{AllPairs, Sorted.IsNonDecreasingBy}
 use Rattle.aeth_base.specs.Limits.{max_path_delay}
-use Rattle.aeth_base.specs.declared.ids.Channel.{Channel}
-use Rattle.aeth_base.specs.declared.ids.Side.TheVariants.{Fwd}
+use Rattle.aeth_base.specs.declared.ids.{Channel.Channel, Side.TheVariants.Fwd}
 use Rattle.aeth_server.specs.PrivateServer.{PrivateServer}
 use Rattle.aeth_trace.specs.Channels.{channel_number}
 use Rattle.aeth_group.proofs.MemberLemmas.{connections-groups_of}
-use Rattle.aeth_report.specs.Flows.{close_at, server_of, sessions_in}
-use Rattle.aeth_report.specs.Sessions.{Switch, close_by, session_of}
-use Rattle.aeth_report.specs.declared.session.Close.{Close}
-use Rattle.aeth_report.specs.declared.session.Session.{Session}
-use Rattle.aeth_report.proofs.ClosingLemmas.{lands_by_finish}
-use Rattle.aeth_report.proofs.OneFlit.{session-paths}
-use Rattle.aeth_report.proofs.SessionMeetings.{mapped_at}
-use Rattle.aeth_report.proofs.SessionOrder.{sessions_after}
-use Rattle.aeth_report.proofs.StaysAlone.{at-Contains}
-use Rattle.aeth_report.specs.Sound.{IsSound}
+use Rattle.aeth_report.specs.{Flows.close_at, Flows.server_of, Flows.sessions_in, Sessions.Switch}
+use Rattle.aeth_report.specs.{Sessions.close_by, Sessions.session_of, declared.session.Close.Close}
+use Rattle.aeth_report.specs.{declared.session.Session.Session, Sound.IsSound}
+use Rattle.aeth_report.proofs.{ClosingLemmas.lands_by_finish, OneFlit.session-paths}
+use Rattle.aeth_report.proofs.{SessionMeetings.mapped_at, SessionOrder.sessions_after}
+use Rattle.aeth_report.proofs.{StaysAlone.at-Contains}
 use Rattle.aeth_refinement.specs.Fabric.{server_at}
 use Rattle.aeth_accepted.specs.Inputs.{Inputs, run_of}
-use Rattle.aeth_fabric.specs.Fabric.{Placed, ended, fabric_of, no_placed, placed_at, placed_of, stays_in}
+use Rattle.aeth_fabric.specs.Fabric.{Placed, ended, fabric_of, no_placed, placed_at, placed_of}
+use Rattle.aeth_fabric.specs.Fabric.{stays_in}
 use Rattle.aeth_fabric.proofs.Numbers.{numbered, placed-there}
 use Rattle.aeth_stimuli.specs.Sessions.{IsBefore, channel_of}
 use Rattle.aeth_running.proofs.ChannelsByNumber.{same-connection}

@@ -1,34 +1,28 @@
 -- What is told of a session is what the log of its private server says.
-use Rattle.std.proofs.Common.{◌≡◌, ◌≤◌, ◌<◌, ◌∙◌, ℕ, zero, suc, ◌+◌, Contains, List, [], ◌∷◌, Some, drop}
-use Rattle.std.proofs.Common.{map}
-use Rattle.std.proofs.Common.{min, slice_get, take, refl, sym, ap, arith}
-use Rattle.std.specs.Prelude.{count_by, nat_lt}
+use Rattle.std.proofs.Common.{◌≡◌, ◌≤◌, ◌<◌, ◌∙◌, ℕ, zero, suc, ◌+◌, Contains, List, [], ◌∷◌, Some}
+use Rattle.std.proofs.Common.{drop, map, min, slice_get, take, refl, sym, ap, arith, count_by}
+use Rattle.std.proofs.Common.{nat_lt}
+use Rattle.std.proofs.lemmas.{List.FromFn.take-map-range_with_len, Option.same_Some}
 use Rattle.std.specs.List.{range_with_len}
-use Rattle.std.proofs.lemmas.List.FromFn.{take-map-range_with_len}
-use Rattle.std.proofs.lemmas.Option.{same_Some}
 use Rattle.aeth_base.specs.declared.ids.Channel.{Channel}
-use Rattle.aeth_server.specs.Landing.{landing_cycle}
-use Rattle.aeth_server.specs.PrivateServer.{PrivateServer, landed, taken}
-use Rattle.aeth_server.specs.Shape.{HasPaths}
+use Rattle.aeth_server.specs.{Landing.landing_cycle, PrivateServer.PrivateServer}
+use Rattle.aeth_server.specs.{PrivateServer.landed, PrivateServer.taken, Shape.HasPaths}
 use Rattle.aeth_server.proofs.PrivateServerLemmas.{has-grown, in-order}
 use Rattle.aeth_report.specs.Flows.{flow_of, server_of, sessions_in, values_of}
 use Rattle.aeth_report.specs.RunLog.{counted_to, flow_log, landing_of}
-use Rattle.aeth_report.specs.declared.log.Landing.{Landing}
-use Rattle.aeth_report.specs.declared.session.Session.{Session}
+use Rattle.aeth_report.specs.declared.{log.Landing.Landing, session.Session.Session}
 use Rattle.aeth_report.specs.Sound.{IsSound}
-use Rattle.aeth_report.proofs.ClosingLemmas.{lands_by_finish}
-use Rattle.aeth_report.proofs.OneFlit.{session-paths}
+use Rattle.aeth_report.proofs.{ClosingLemmas.lands_by_finish, OneFlit.session-paths}
 use Rattle.aeth_components.specs.declared.lane.Lane.{Lane}
 use Rattle.aeth_refinement.specs.Fabric.{IsGoing, server_at}
 use Rattle.aeth_accepted.specs.Inputs.{AreAccepted, Inputs, run_of}
 use Rattle.aeth_fabric.specs.Fabric.{fabric_of}
 use Rattle.aeth_schedule.specs.declared.going.Going.{Going}
-use Rattle.aeth_running.specs.FirstLog.{first_row, first_session}
-use Rattle.aeth_running.specs.Running.{IsLastOf}
-use Rattle.aeth_stimuli.specs.Sessions.{SessionGoing, as_going, first_of, going_of}
-use Rattle.aeth_running.specs.Told.{landed_below, rows_told, session_told}
+use Rattle.aeth_running.specs.{FirstLog.first_row, FirstLog.first_session, Running.IsLastOf}
+use Rattle.aeth_running.specs.{Told.landed_below, Told.rows_told, Told.session_told}
 use Rattle.aeth_running.proofs.FirstRows.{count-is, first-row-is}
 use Rattle.aeth_running.proofs.LandedWords.{landed-at, landed-count, slice_get-drop}
+use Rattle.aeth_stimuli.specs.Sessions.{SessionGoing, as_going, first_of, going_of}
 
 -- Rows that are told with a cycle each.
 rows-told-are : (end : ℕ) (landings : List ℕ) (first told : ℕ → Landing) (at : ℕ → ℕ) (n a : ℕ)

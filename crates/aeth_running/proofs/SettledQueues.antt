@@ -1,37 +1,28 @@
 -- Source queues behind a cycle in which no flit is sent: eight words wait, or all that have arrived were
 -- handed on.
-use Rattle.std.proofs.Common.{◌≡◌, ◌<◌, ◌∙◌, ◌+◌, ◌-◌, ℕ, suc, Bool, List}
-use Rattle.std.proofs.Common.{◌++◌, Option, Some, None, ap, ap₂, arith, cond, inl, inr, length, min, refl}
-use Rattle.std.proofs.Common.{slice_get, sym, take}
+use Rattle.std.proofs.Common.{◌≡◌, ◌<◌, ◌∙◌, ◌+◌, ◌-◌, ℕ, suc, Bool, List, ◌++◌, Option, Some, None}
+use Rattle.std.proofs.Common.{ap, ap₂, arith, cond, inl, inr, length, min, refl, slice_get, sym}
+use Rattle.std.proofs.Common.{take, le-leb, lt-ltb, append-nil}
+use Rattle.std.proofs.lemmas.Bool.{and_from, cases_lt}
 use Rattle.std.specs.Option.{option_map_or}
-use Rattle.std.proofs.lemmas.Bool.{and_from, cases_lt, le-leb, lt-ltb}
-use Rattle.std.proofs.lemmas.List.{append-nil}
 use Rattle.aeth_clocked.specs.declared.flit.Flit.{Flit}
-use Rattle.aeth_ni.specs.Limits.{waiting_words}
-use Rattle.aeth_ni.specs.Interface.{InterfaceState, changed, queue_at}
-use Rattle.aeth_ni.specs.Queue.{QueueState}
+use Rattle.aeth_ni.specs.{Limits.waiting_words, Interface.InterfaceState, Interface.changed}
+use Rattle.aeth_ni.specs.{Interface.queue_at, Queue.QueueState}
 use Rattle.aeth_router.specs.declared.part.Part.{Part}
 use Rattle.aeth_router.specs.declared.part.Part.TheVariants.{Interface, Router, Stage, TableRouter}
 use Rattle.aeth_server.specs.PrivateServer.{arrived, sent}
 use Rattle.aeth_server.proofs.PrivateServerLemmas.{sent-more}
 use Rattle.aeth_report.specs.Carries.{returns, sends}
-use Rattle.aeth_components.proofs.PartLemmas.{with_part-same}
-use Rattle.aeth_components.proofs.QueueLemmas.{changed-same}
-use Rattle.aeth_components.specs.Changes.{at_end, on_interface, told_at, told_by}
-use Rattle.aeth_components.specs.Phases.{handed_on}
-use Rattle.aeth_components.specs.Queues.{filled, fits}
-use Rattle.aeth_components.specs.View.{queue_in, queue_of as queue_in_parts}
-use Rattle.aeth_components.specs.declared.lane.Lane.{Lane}
-use Rattle.aeth_refinement.specs.Accepted.{IsAccepted}
-use Rattle.aeth_refinement.specs.Carried.{Exact}
-use Rattle.aeth_refinement.specs.Components.{Net}
-use Rattle.aeth_refinement.specs.Cycle.{handing}
-use Rattle.aeth_refinement.specs.Fabric.{Fabric, IsGoing, Owns, flow_at, server_at}
-use Rattle.aeth_refinement.specs.Standing.{Stands}
-use Rattle.aeth_refinement.specs.Switches.{Switched}
-use Rattle.aeth_refinement.proofs.Events.{no-finish}
-use Rattle.aeth_refinement.proofs.Owning.{waiting-length}
-use Rattle.aeth_refinement.proofs.Unique.{injects-some, paths-of}
+use Rattle.aeth_components.proofs.{PartLemmas.with_part-same, QueueLemmas.changed-same}
+use Rattle.aeth_components.specs.{Changes.at_end, Changes.on_interface, Changes.told_at}
+use Rattle.aeth_components.specs.{Changes.told_by, Phases.handed_on, Queues.filled, Queues.fits}
+use Rattle.aeth_components.specs.{View.queue_in, View.queue_of as queue_in_parts}
+use Rattle.aeth_components.specs.{declared.lane.Lane.Lane}
+use Rattle.aeth_refinement.specs.{Accepted.IsAccepted, Carried.Exact, Components.Net, Cycle.handing}
+use Rattle.aeth_refinement.specs.{Fabric.Fabric, Fabric.IsGoing, Fabric.Owns, Fabric.flow_at}
+use Rattle.aeth_refinement.specs.{Fabric.server_at, Standing.Stands, Switches.Switched}
+use Rattle.aeth_refinement.proofs.{Events.no-finish, Owning.waiting-length, Unique.injects-some}
+use Rattle.aeth_refinement.proofs.{Unique.paths-of}
 use Rattle.aeth_invariant.specs.Served.{handed_after}
 
 module _ (fabric : Fabric) (ok : IsAccepted fabric) (t c : ℕ) (known : c < fabric.count)

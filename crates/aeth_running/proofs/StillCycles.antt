@@ -1,36 +1,29 @@
 -- The cycles that leave the network of accepted inputs as it is are the idle cycles of its run.
-use Rattle.std.proofs.Common.{◌≡◌, ◌≤◌, ◌<◌, ◌+◌, ◌∙◌, ℕ, All, [], Contains, None, zero, suc}
-use Rattle.std.proofs.Common.{ap, arith, inl, inr, length, subst, sym}
-use Rattle.std.specs.Option.{option_to_list}
+use Rattle.std.proofs.Common.{◌≡◌, ◌≤◌, ◌<◌, ◌+◌, ◌∙◌, ℕ, All, [], Contains, None, zero, suc, ap}
+use Rattle.std.proofs.Common.{arith, inl, inr, length, subst, sym}
 use Rattle.std.proofs.lemmas.Bool.{cases_lt}
-use Rattle.aeth_base.specs.declared.ids.Channel.{Channel}
-use Rattle.aeth_base.specs.declared.ids.LinkId.{LinkId}
+use Rattle.std.specs.Option.{option_to_list}
+use Rattle.aeth_base.specs.declared.ids.{Channel.Channel, LinkId.LinkId}
 use Rattle.aeth_base.proofs.Members.{Contains-slice_get, slice_get-Contains}
-use Rattle.aeth_chip.specs.Paths.{delay_of}
-use Rattle.aeth_chip.specs.Wires.{wire_at}
+use Rattle.aeth_chip.specs.{Paths.delay_of, Wires.wire_at}
 use Rattle.aeth_clocked.specs.Wires.{flit_on}
 use Rattle.aeth_components.specs.Lanes.{is_open}
 use Rattle.aeth_group.proofs.MemberLemmas.{connections-groups_of}
 use Rattle.aeth_server.specs.PrivateServer.{PrivateServer, taken}
-use Rattle.aeth_report.specs.Carries.{carries}
-use Rattle.aeth_report.specs.Flows.{server_of, sessions_in}
-use Rattle.aeth_report.specs.Sound.{IsSound}
-use Rattle.aeth_report.specs.declared.session.Session.{Session}
+use Rattle.aeth_report.specs.{Carries.carries, Flows.server_of, Flows.sessions_in, Sound.IsSound}
+use Rattle.aeth_report.specs.{declared.session.Session.Session}
 use Rattle.aeth_report.proofs.OneFlit.{session-paths}
-use Rattle.aeth_refinement.specs.Accepted.{IsAccepted}
-use Rattle.aeth_refinement.specs.Fabric.{IsGoing, server_at}
+use Rattle.aeth_refinement.specs.{Accepted.IsAccepted, Fabric.IsGoing, Fabric.server_at}
 use Rattle.aeth_accepted.specs.Inputs.{AreAccepted, Inputs, run_of}
 use Rattle.aeth_accepted.proofs.SoundRuns.{AreSpans, is_sound}
 use Rattle.aeth_fabric.specs.Fabric.{ended, fabric_of, placed_at}
 use Rattle.aeth_schedule.specs.Windows.{IsWithin}
-use Rattle.aeth_stimuli.specs.Sessions.{channel_of}
-use Rattle.aeth_stimuli.specs.Stimuli.{Stimuli, stimuli_of}
-use Rattle.aeth_stimuli.specs.Events.{events_in}
-use Rattle.aeth_running.specs.Idle.{IsIdle}
-use Rattle.aeth_running.specs.Network.{NetworkState, first_network, goings_in, offers_in, played}
-use Rattle.aeth_running.specs.Network.{ready_in, stepped}
-use Rattle.aeth_running.specs.Running.{IsRunning, IsServing}
-use Rattle.aeth_running.specs.Still.{IsStill}
+use Rattle.aeth_stimuli.specs.{Sessions.channel_of, Stimuli.Stimuli, Stimuli.stimuli_of}
+use Rattle.aeth_stimuli.specs.{Events.events_in}
+use Rattle.aeth_running.specs.{Idle.IsIdle, Network.NetworkState, Network.first_network}
+use Rattle.aeth_running.specs.{Network.goings_in, Network.offers_in, Network.played}
+use Rattle.aeth_running.specs.{Network.ready_in, Network.stepped, Running.IsRunning}
+use Rattle.aeth_running.specs.{Running.IsServing, Still.IsStill, Routing.Routing}
 use Rattle.aeth_running.proofs.FabricSessions.{placed-known, session-there, session_at}
 use Rattle.aeth_running.proofs.NetworkWires.{exact, nothing-first}
 use Rattle.aeth_running.proofs.Played.{played-next, played-stimuli, played-time}
@@ -40,7 +33,6 @@ use Rattle.aeth_running.proofs.StillGoings.{no-goings}
 use Rattle.aeth_running.proofs.StillRows.{no-offers, no-switches, no-windows, no-words}
 use Rattle.aeth_running.proofs.StillTakes.{rest-asked, rest-taken, rests-early}
 use Rattle.aeth_running.proofs.StillWires.{no-carries, no-flits}
-use Rattle.aeth_running.specs.Routing.{Routing}
 
 module _ (inputs : Inputs) (routing : Routing) (accepted : AreAccepted inputs) (spans : AreSpans inputs accepted)
     (ok : IsAccepted (fabric_of inputs))

@@ -1,14 +1,11 @@
 -- Each event of a run falls in the window of its switch.
-use Rattle.std.proofs.Common.{◌≡◌, ◌<◌, ℕ, All, Contains, List, [], ◌∷◌, arith}
-use Rattle.std.proofs.Common.{filter, inl, inr, length, map, refl, subst, sym}
-use Rattle.std.specs.Prelude.{◌==◌}
+use Rattle.std.proofs.Common.{◌≡◌, ◌<◌, ℕ, All, Contains, List, [], ◌∷◌, arith, filter, inl, inr}
+use Rattle.std.proofs.Common.{length, map, refl, subst, sym, ◌==◌, eqb-true}
+use Rattle.std.proofs.lemmas.{Bool.cases_Bool, List.Elements.All-head, List.Elements.All-tail}
+use Rattle.std.proofs.lemmas.{Option.slice_get_within}
 use Rattle.std.specs.List.{zip}
-use Rattle.std.proofs.lemmas.Bool.{cases_Bool, eqb-true}
-use Rattle.std.proofs.lemmas.List.Elements.{All-head, All-tail}
-use Rattle.std.proofs.lemmas.Option.{slice_get_within}
 use Rattle.aeth_base.proofs.Members.{Contains-cases, Contains-nil}
-use Rattle.aeth_group.specs.Members.{groups_of}
-use Rattle.aeth_group.proofs.MemberLemmas.{length-groups_of}
+use Rattle.aeth_group.{specs.Members.groups_of, proofs.MemberLemmas.length-groups_of}
 use Rattle.aeth_ni.proofs.ProgramLemmas.{length-program_of}
 use Rattle.aeth_trace.specs.declared.switches.SwitchRow.{SwitchRow}
 use Rattle.aeth_report.specs.Sessions.{Switch, close_by}
@@ -19,12 +16,10 @@ use Rattle.aeth_accepted.proofs.SoundRuns.{AreSpans}
 use Rattle.aeth_schedule.specs.Switching.{events_by, later_switches, switches_from, timed_of}
 use Rattle.aeth_schedule.specs.Windows.{StopsChannels, Writes}
 use Rattle.aeth_schedule.specs.declared.timed.Timed.{Timed}
-use Rattle.aeth_stimuli.specs.Stimuli.{stimuli_of}
-use Rattle.aeth_stimuli.specs.Events.{events_in}
+use Rattle.aeth_stimuli.specs.{Stimuli.stimuli_of, Events.events_in}
 use Rattle.aeth_stimuli.proofs.RunEvents.{caused, may}
 use Rattle.aeth_stimuli.proofs.SwitchEvents.{IsChange, IsFinish, IsHalt, event-by}
-use Rattle.aeth_running.proofs.StillRows.{none-kept}
-use Rattle.aeth_running.specs.Idle.{FallsOn}
+use Rattle.aeth_running.{proofs.StillRows.none-kept, specs.Idle.FallsOn}
 
 -- A switch out of rows is between known use cases.
 known-switch : (uses u : ℕ) (rows : List SwitchRow) → u < uses

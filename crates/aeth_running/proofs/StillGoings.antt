@@ -1,8 +1,6 @@
 -- Sessions that go behind cycle 0 are those that switches open.
-use Rattle.std.proofs.Common.{◌≡◌, ◌<◌, ℕ, Contains, List, [], ◌∷◌, Some, None, ap, arith}
-use Rattle.std.proofs.Common.{inl, inr, map, sym}
-use Rattle.std.specs.Prelude.{◌==◌, nat_lt}
-use Rattle.std.proofs.lemmas.Bool.{eqb-true}
+use Rattle.std.proofs.Common.{◌≡◌, ◌<◌, ℕ, Contains, List, [], ◌∷◌, Some, None, ap, arith, inl, inr}
+use Rattle.std.proofs.Common.{map, sym, ◌==◌, nat_lt, eqb-true}
 use Rattle.std.proofs.lemmas.List.Elements.{Contains-append_cases}
 use Rattle.aeth_base.proofs.Members.{Contains-here, Contains-nil, Contains-there, filter-Contains}
 use Rattle.aeth_base.proofs.Members.{map-Contains}
@@ -10,15 +8,12 @@ use Rattle.aeth_group.specs.Members.{groups_of}
 use Rattle.aeth_trace.specs.declared.switches.SwitchRow.{SwitchRow}
 use Rattle.aeth_report.specs.Sessions.{Switch, go_by}
 use Rattle.aeth_accepted.specs.Inputs.{Inputs, run_of}
-use Rattle.aeth_schedule.specs.Goings.{going_by, goings_behind, goings_from, goings_of}
-use Rattle.aeth_schedule.specs.Lines.{all_lines, changed_lines, lines_at}
-use Rattle.aeth_schedule.specs.Switching.{later_switches, switches_from}
-use Rattle.aeth_schedule.specs.Windows.{Writes}
-use Rattle.aeth_schedule.specs.declared.going.Going.{Going}
+use Rattle.aeth_schedule.specs.{Goings.going_by, Goings.goings_behind, Goings.goings_from}
+use Rattle.aeth_schedule.specs.{Goings.goings_of, Lines.all_lines, Lines.changed_lines}
+use Rattle.aeth_schedule.specs.{Lines.lines_at, Switching.later_switches, Switching.switches_from}
+use Rattle.aeth_schedule.specs.{Windows.Writes, declared.going.Going.Going}
 use Rattle.aeth_stimuli.specs.Stimuli.{stimuli_of}
-use Rattle.aeth_running.proofs.StillRows.{none-kept}
-use Rattle.aeth_running.specs.Idle.{FallsOn}
-use Rattle.aeth_running.specs.Network.{goings_in}
+use Rattle.aeth_running.{proofs.StillRows.none-kept, specs.Idle.FallsOn, specs.Network.goings_in}
 
 module _ (inputs : Inputs) where
   abbrev behind : ℕ → List SwitchRow → List Going

@@ -1,9 +1,8 @@
 -- Cycles in which no row of a trace falls: no word is offered, no later session goes, and no switch does
 -- anything.
-use Rattle.std.proofs.Common.{◌≡◌, ◌<◌, ◌∙◌, ℕ, All, Bool, true, Contains, List, []}
-use Rattle.std.proofs.Common.{ap, arith, filter, map, subst}
-use Rattle.std.specs.Prelude.{◌==◌, nat_lt}
-use Rattle.std.proofs.lemmas.Bool.{eq-eqb, eqb-true, false_from_ne_true, lt-ltb}
+use Rattle.std.proofs.Common.{◌≡◌, ◌<◌, ◌∙◌, ℕ, All, Bool, true, Contains, List, [], ap, arith}
+use Rattle.std.proofs.Common.{filter, map, subst, ◌==◌, nat_lt, eq-eqb, eqb-true, lt-ltb}
+use Rattle.std.proofs.lemmas.Bool.{false_from_ne_true}
 use Rattle.aeth_base.proofs.Filters.{filter-all_fail}
 use Rattle.aeth_base.proofs.Members.{Contains-filter, Contains-map, Contains-nil}
 use Rattle.aeth_base.proofs.Members.{Contains-slice_get, filter-Contains, map-Contains}
@@ -11,12 +10,10 @@ use Rattle.aeth_tables.proofs.ListLaws.{all_from_places, all_has}
 use Rattle.aeth_trace.specs.declared.words.WordRow.{WordRow}
 use Rattle.aeth_report.specs.Sessions.{Switch}
 use Rattle.aeth_accepted.specs.Inputs.{Inputs, run_of}
-use Rattle.aeth_schedule.specs.Switching.{later_switches}
-use Rattle.aeth_schedule.specs.Windows.{IsWithin, window_by, windows_over}
-use Rattle.aeth_schedule.specs.declared.windows.Window.{Window}
+use Rattle.aeth_schedule.specs.{Switching.later_switches, Windows.IsWithin, Windows.window_by}
+use Rattle.aeth_schedule.specs.{Windows.windows_over, declared.windows.Window.Window}
 use Rattle.aeth_stimuli.specs.Stimuli.{Offer, offer_of, stimuli_of}
-use Rattle.aeth_running.specs.Idle.{FallsOn}
-use Rattle.aeth_running.specs.Network.{offers_in}
+use Rattle.aeth_running.specs.{Idle.FallsOn, Network.offers_in}
 
 -- A list none of whose items passes a test keeps none, and the other way round.
 pub none-kept : {X : Type 0} (test : X → Bool) (xs : List X)

@@ -1,20 +1,16 @@
 -- In a cycle on which no switch falls no rows enter tables, so none do in a still cycle.
-use Rattle.std.proofs.Common.{◌≡◌, ◌<◌, ℕ, All, Contains, [], refl, subst}
-use Rattle.std.specs.Prelude.{◌==◌}
-use Rattle.std.proofs.lemmas.Bool.{eqb-true}
+use Rattle.std.proofs.Common.{◌≡◌, ◌<◌, ℕ, All, Contains, [], refl, subst, ◌==◌, eqb-true}
 use Rattle.aeth_tables.proofs.ListLaws.{all_has}
 use Rattle.aeth_report.specs.Sessions.{Switch}
 use Rattle.aeth_accepted.specs.Inputs.{Inputs, run_of}
-use Rattle.aeth_schedule.specs.Switching.{later_switches}
+use Rattle.aeth_schedule.specs.{Switching.later_switches, Windows.IsWithin}
 use Rattle.aeth_running.proofs.StillRows.{no-switches, none-kept}
-use Rattle.aeth_schedule.specs.Windows.{IsWithin}
-use Rattle.aeth_stimuli.specs.Stimuli.{Stimuli, stimuli_of}
 use Rattle.aeth_running.proofs.Played.{played-stimuli, played-time}
-use Rattle.aeth_running.specs.Idle.{FallsOn}
-use Rattle.aeth_running.specs.Network.{first_network, played}
-use Rattle.aeth_running.specs.Routing.{ByHeaders, ByTables, Entering, IsRoutingFor, IsSwitched}
-use Rattle.aeth_running.specs.Routing.{Routing, enterings_in}
-use Rattle.aeth_running.specs.Still.{IsStill}
+use Rattle.aeth_running.specs.{Idle.FallsOn, Network.first_network, Network.played}
+use Rattle.aeth_running.specs.{Routing.ByHeaders, Routing.ByTables, Routing.Entering}
+use Rattle.aeth_running.specs.{Routing.IsRoutingFor, Routing.IsSwitched, Routing.Routing}
+use Rattle.aeth_running.specs.{Routing.enterings_in, Still.IsStill}
+use Rattle.aeth_stimuli.specs.Stimuli.{Stimuli, stimuli_of}
 
 pub no-enterings : (inputs : Inputs) (routing : Routing) → IsRoutingFor inputs routing → (t : ℕ)
     → ((switch : Switch) → Contains (later_switches inputs.switches) switch

@@ -1,18 +1,14 @@
 -- Cycles in which no receiver takes a word, of channels and of the private servers of their sessions.
-use Rattle.std.proofs.Common.{◌≡◌, ◌≤◌, ◌<◌, ◌∙◌, ◌+◌, ◌-◌, ℕ, Bool, true, List, Some, suc, ap, arith}
-use Rattle.std.proofs.Common.{cond, inl, inr, min, slice_get, sym}
-use Rattle.std.proofs.lemmas.Bool.{and_from, cases_lt, le-leb, lt-ltb}
-use Rattle.std.proofs.lemmas.Option.{same_Some}
-use Rattle.aeth_components.specs.Lanes.{is_open}
-use Rattle.aeth_components.specs.Phases.{asked_of}
-use Rattle.aeth_components.specs.declared.lane.Lane.{Lane}
+use Rattle.std.proofs.Common.{◌≡◌, ◌≤◌, ◌<◌, ◌∙◌, ◌+◌, ◌-◌, ℕ, Bool, true, List, Some, suc, ap}
+use Rattle.std.proofs.Common.{arith, cond, inl, inr, min, slice_get, sym, le-leb, lt-ltb}
+use Rattle.std.proofs.lemmas.{Bool.and_from, Bool.cases_lt, Option.same_Some}
+use Rattle.aeth_components.specs.{Lanes.is_open, Phases.asked_of, declared.lane.Lane.Lane}
 use Rattle.aeth_server.proofs.PrivateServerLemmas.{taken-next}
 use Rattle.aeth_server.proofs.SessionEnds.{idle-before, is-closed}
 use Rattle.aeth_server.specs.PrivateServer.{PrivateServer, landed, pull_at, taken}
 use Rattle.aeth_server.specs.Shape.{HasPaths}
-use Rattle.aeth_refinement.proofs.Unique.{paths-of}
-use Rattle.aeth_refinement.specs.Accepted.{IsAccepted}
-use Rattle.aeth_refinement.specs.Fabric.{Fabric, IsGoing, server_at}
+use Rattle.aeth_refinement.{proofs.Unique.paths-of, specs.Accepted.IsAccepted, specs.Fabric.Fabric}
+use Rattle.aeth_refinement.{specs.Fabric.IsGoing, specs.Fabric.server_at}
 use Rattle.aeth_invariant.specs.Served.{AreServed, HasLane, IsLaneOf}
 
 -- A server that isn't gone yet or is finished takes nothing.

@@ -1,21 +1,16 @@
 -- Cycles in which no wire has a flit, of a network and of the private servers of its run.
-use Rattle.std.proofs.Common.{◌≡◌, ◌<◌, ◌+◌, ◌-◌, ◌∙◌, ℕ, [], Option, Some, None, refl}
-use Rattle.std.proofs.Common.{sym, ap, arith}
+use Rattle.std.proofs.Common.{◌≡◌, ◌<◌, ◌+◌, ◌-◌, ◌∙◌, ℕ, [], Option, Some, None, refl, sym, ap}
+use Rattle.std.proofs.Common.{arith}
 use Rattle.std.specs.Option.{option_to_list}
 use Rattle.aeth_base.specs.declared.ids.LinkId.{LinkId}
-use Rattle.aeth_chip.specs.Paths.{delay_of}
-use Rattle.aeth_chip.specs.Wires.{wire_at}
-use Rattle.aeth_clocked.specs.Wires.{flit_on}
-use Rattle.aeth_clocked.specs.declared.flit.Flit.{Flit}
+use Rattle.aeth_chip.specs.{Paths.delay_of, Wires.wire_at}
+use Rattle.aeth_clocked.specs.{Wires.flit_on, declared.flit.Flit.Flit}
 use Rattle.aeth_report.specs.Carries.{carries}
-use Rattle.aeth_refinement.specs.Carried.{Exact}
-use Rattle.aeth_refinement.specs.Fabric.{flow_at}
+use Rattle.aeth_refinement.specs.{Carried.Exact, Fabric.flow_at}
 use Rattle.aeth_accepted.specs.Inputs.{Inputs, run_of}
-use Rattle.aeth_fabric.specs.Fabric.{fabric_of}
-use Rattle.aeth_fabric.proofs.PathWires.{wires-place}
+use Rattle.aeth_fabric.{specs.Fabric.fabric_of, proofs.PathWires.wires-place}
 use Rattle.aeth_running.proofs.NetworkWires.{nothing-listed}
-use Rattle.aeth_running.specs.Network.{first_network, played}
-use Rattle.aeth_running.specs.Routing.{Routing}
+use Rattle.aeth_running.specs.{Network.first_network, Network.played, Routing.Routing}
 
 module _ (inputs : Inputs) (routing : Routing) where
   -- A wire is that of a link on which a flit is that entered it so many cycles before.

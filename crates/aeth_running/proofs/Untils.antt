@@ -1,34 +1,26 @@
 -- Until when channels accept words, and that the session that went last is the one that accepts them.
-use Rattle.std.proofs.Common.{◌≡◌, ◌≤◌, ◌<◌, ◌∙◌, ℕ, zero, suc, ◌+◌, ◌*◌, ◌||◌, Bool, List}
-use Rattle.std.proofs.Common.{filter, fold, length, map, replicate, sym, ap, arith}
-use Rattle.std.specs.Prelude.{◌==◌, nat_lt, slice_index}
-use Rattle.std.specs.List.{AllPairs, list_any}
-use Rattle.std.specs.List.Sorted.{IsNonDecreasingBy}
-use Rattle.std.proofs.lemmas.Bool.{le-ltb}
-use Rattle.std.proofs.lemmas.List.{get_or-replicate, length-replicate}
-use Rattle.std.proofs.lemmas.List.Folds.{fold-map}
-use Rattle.std.proofs.lemmas.List.Sums.{fold-append}
+use Rattle.std.proofs.Common.{◌≡◌, ◌≤◌, ◌<◌, ◌∙◌, ℕ, zero, suc, ◌+◌, ◌*◌, ◌||◌, Bool, List, filter}
+use Rattle.std.proofs.Common.{fold, length, map, replicate, sym, ap, arith, ◌==◌, nat_lt}
+use Rattle.std.proofs.Common.{slice_index, le-ltb}
+use Rattle.std.proofs.lemmas.List.{get_or-replicate, length-replicate, Folds.fold-map}
+use Rattle.std.proofs.lemmas.List.{Sums.fold-append}
+use Rattle.std.specs.List.{AllPairs, list_any, Sorted.IsNonDecreasingBy}
 use Rattle.aeth_base.specs.declared.ids.Channel.{Channel}
-use Rattle.aeth_base.proofs.Lists.{list_any-map}
-use Rattle.aeth_trace.specs.Channels.{channel_number}
-use Rattle.aeth_trace.specs.declared.words.WordRow.{WordRow}
-use Rattle.aeth_report.specs.Flows.{close_at, flow_of, flows_on, sessions_in}
-use Rattle.aeth_report.specs.RunLog.{is_accepted}
-use Rattle.aeth_report.specs.declared.session.Session.{Session}
+use Rattle.aeth_base.proofs.{Lists.list_any-map, Filters.filter-map, Filters.filter-swap}
+use Rattle.aeth_trace.specs.{Channels.channel_number, declared.words.WordRow.WordRow}
+use Rattle.aeth_report.specs.{Flows.close_at, Flows.flow_of, Flows.flows_on, Flows.sessions_in}
+use Rattle.aeth_report.specs.{RunLog.is_accepted, declared.session.Session.Session}
 use Rattle.aeth_accepted.specs.Inputs.{Inputs, run_of}
-use Rattle.aeth_schedule.specs.Goings.{goings_of}
-use Rattle.aeth_schedule.specs.declared.going.Going.{Going}
-use Rattle.aeth_stimuli.specs.Stimuli.{goings_over}
-use Rattle.aeth_running.specs.Network.{first_network, played, until_with, untils_in}
+use Rattle.aeth_schedule.specs.{Goings.goings_of, declared.going.Going.Going}
+use Rattle.aeth_stimuli.specs.Stimuli.{goings_over, is_over, stimuli_of}
 use Rattle.aeth_stimuli.specs.Sessions.{SessionGoing, as_going, going_of}
-use Rattle.aeth_stimuli.specs.Stimuli.{is_over, stimuli_of}
 use Rattle.aeth_stimuli.proofs.WordWindows.{below-none}
+use Rattle.aeth_running.specs.Network.{first_network, played, until_with, untils_in}
+use Rattle.aeth_running.specs.Routing.{Routing}
 use Rattle.aeth_running.proofs.Accepting.{accepts, last-accepts, last_until, written-last}
-use Rattle.aeth_base.proofs.Filters.{filter-map, filter-swap}
 use Rattle.aeth_running.proofs.InOrder.{below, below-next, below-wider}
 use Rattle.aeth_running.proofs.Played.{untils-first, untils-next}
 use Rattle.aeth_running.proofs.Replaced.{go_of}
-use Rattle.aeth_running.specs.Routing.{Routing}
 
 -- The last of what is shown.
 last-shown : {X Y : Type 0} (show : X → Y) (go until : Y → ℕ) (t before : ℕ) (xs : List X)

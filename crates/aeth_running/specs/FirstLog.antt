@@ -3,22 +3,17 @@
 --   rows_of, first_row, first_rows      the words of a session, and a row of the log for each
 --   first_session, first_channel, first_log      a session, a channel, and the log
 -- This project's own.
-use Rattle.std.specs.Prelude.{ℕ, ◌+◌, nat_lt, List, drop, length, map, replicate}
-use Rattle.std.specs.Prelude.{slice_index, take}
+use Rattle.std.proofs.Common.{ℕ, ◌+◌, nat_lt, List, drop, length, map, replicate, slice_index, take}
 use Rattle.std.specs.List.{range_with_len}
 use Rattle.aeth_base.specs.declared.ids.Channel.{Channel}
-use Rattle.aeth_server.specs.ChannelShape.{shape_of}
-use Rattle.aeth_server.specs.FinishTimes.{due_cycle, finish_time}
-use Rattle.aeth_server.specs.Shape.{channel_latency}
-use Rattle.aeth_trace.specs.Channels.{channel_number}
-use Rattle.aeth_trace.specs.Words.{words_on}
-use Rattle.aeth_trace.specs.declared.words.WordRow.{WordRow}
-use Rattle.aeth_report.specs.Channels.{channels_of}
-use Rattle.aeth_report.specs.Log.{ChannelData, LogData, SessionData}
-use Rattle.aeth_report.specs.declared.log.Landing.{Landing}
+use Rattle.aeth_server.specs.{ChannelShape.shape_of, FinishTimes.due_cycle, FinishTimes.finish_time}
+use Rattle.aeth_server.specs.{Shape.channel_latency}
+use Rattle.aeth_trace.specs.{Channels.channel_number, Words.words_on}
+use Rattle.aeth_trace.specs.{declared.words.WordRow.WordRow}
+use Rattle.aeth_report.specs.{Channels.channels_of, Log.ChannelData, Log.LogData, Log.SessionData}
+use Rattle.aeth_report.specs.{declared.log.Landing.Landing}
 use Rattle.aeth_accepted.specs.Inputs.{Inputs}
-use Rattle.aeth_schedule.specs.Goings.{goings_of}
-use Rattle.aeth_schedule.specs.declared.going.Going.{Going}
+use Rattle.aeth_schedule.specs.{Goings.goings_of, declared.going.Going.Going}
 use Rattle.aeth_stimuli.specs.Stimuli.{goings_over}
 
 module _ (words : List WordRow) where

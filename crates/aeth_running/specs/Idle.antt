@@ -5,19 +5,15 @@
 --               anything
 --   IsNextBusyOf      the next cycle of a run that isn't idle
 -- This project's own.
-use Rattle.std.specs.Prelude.{◌≡◌, ◌≤◌, ◌<◌, ◌+◌, ℕ, [], Contains}
-use Rattle.aeth_base.specs.declared.ids.Channel.{Channel}
-use Rattle.aeth_base.specs.declared.ids.LinkId.{LinkId}
+use Rattle.std.proofs.Common.{◌≡◌, ◌≤◌, ◌<◌, ◌+◌, ℕ, [], Contains}
+use Rattle.aeth_base.specs.declared.ids.{Channel.Channel, LinkId.LinkId}
 use Rattle.aeth_chip.specs.Paths.{delay_of}
 use Rattle.aeth_server.specs.PrivateServer.{taken}
-use Rattle.aeth_trace.specs.Spans.{SpanData}
-use Rattle.aeth_trace.specs.declared.words.WordRow.{WordRow}
-use Rattle.aeth_report.specs.Carries.{carries}
-use Rattle.aeth_report.specs.Flows.{Run, server_of, sessions_in}
-use Rattle.aeth_report.specs.Sessions.{Switch, close_by, go_by}
-use Rattle.aeth_report.specs.declared.session.Session.{Session}
-use Rattle.aeth_schedule.specs.Switching.{later_switches}
-use Rattle.aeth_schedule.specs.Windows.{IsCycleOf}
+use Rattle.aeth_trace.specs.{Spans.SpanData, declared.words.WordRow.WordRow}
+use Rattle.aeth_report.specs.{Carries.carries, Flows.Run, Flows.server_of, Flows.sessions_in}
+use Rattle.aeth_report.specs.{Sessions.Switch, Sessions.close_by, Sessions.go_by}
+use Rattle.aeth_report.specs.{declared.session.Session.Session}
+use Rattle.aeth_schedule.specs.{Switching.later_switches, Windows.IsCycleOf}
 
 -- In a cycle a switch stops words or channels, or has finished these, writes, or lets others go.
 abbrev pub FallsOn : SpanData → Switch → ℕ → Type 0

@@ -4,14 +4,12 @@
 --   HoldsAll      a receive queue has each word that landed there and wasn't taken
 --   LosesNothing      both, of all routers and all sessions
 -- This project's own.
-use Rattle.std.specs.Prelude.{◌≡◌, ◌≤◌, ◌<◌, ◌+◌, ◌-◌, ℕ, List, Option, Some, length}
-use Rattle.aeth_clocked.specs.Wires.{flit_on}
-use Rattle.aeth_clocked.specs.declared.flit.Flit.{Flit}
+use Rattle.std.proofs.Common.{◌≡◌, ◌≤◌, ◌<◌, ◌+◌, ◌-◌, ℕ, List, Option, Some, length}
+use Rattle.aeth_clocked.specs.{Wires.flit_on, declared.flit.Flit.Flit}
 use Rattle.aeth_ni.specs.Queue.{QueueState}
 use Rattle.aeth_router.specs.Ports.{hopped}
 use Rattle.aeth_server.specs.PrivateServer.{landed, taken}
-use Rattle.aeth_components.specs.Components.{ComponentsState}
-use Rattle.aeth_components.specs.View.{queue_of}
+use Rattle.aeth_components.specs.{Components.ComponentsState, View.queue_of}
 use Rattle.aeth_refinement.specs.Carried.{words_from}
 use Rattle.aeth_refinement.specs.Fabric.{AtRouter, Fabric, Owns, flow_at, server_at}
 use Rattle.aeth_accepted.specs.Inputs.{Inputs}

@@ -7,8 +7,8 @@
 --   stepped, played      a network behind one cycle, and behind so many
 --   first_network      the network of inputs before the first cycle
 -- This project's own.
-use Rattle.std.specs.Prelude.{ℕ, zero, suc, ◌+◌, ◌*◌, ◌==◌, nat_lt, if◌then◌else◌, List, [], ◌++◌}
-use Rattle.std.specs.Prelude.{filter, fold, length, map, replicate, slice_index, slice_set}
+use Rattle.std.proofs.Common.{ℕ, zero, suc, ◌+◌, ◌*◌, ◌==◌, nat_lt, if◌then◌else◌, List, [], ◌++◌}
+use Rattle.std.proofs.Common.{filter, fold, length, map, replicate, slice_index, slice_set}
 use Rattle.std.specs.List.{slice_index_or}
 use Rattle.aeth_trace.specs.Channels.{channel_number}
 use Rattle.aeth_report.specs.Log.{LogData}
@@ -16,13 +16,11 @@ use Rattle.aeth_components.specs.Components.{ComponentsState, components_of, lat
 use Rattle.aeth_components.specs.Components.{ready_of, wires_driven}
 use Rattle.aeth_components.specs.Counting.{counted, flits_counted, noted}
 use Rattle.aeth_components.specs.Lanes.{with_lane}
-use Rattle.aeth_components.specs.declared.event.Event.{Event}
-use Rattle.aeth_components.specs.declared.lane.Lane.{Lane}
+use Rattle.aeth_components.specs.declared.{event.Event.Event, lane.Lane.Lane}
 use Rattle.aeth_accepted.specs.Inputs.{Inputs}
 use Rattle.aeth_schedule.specs.declared.going.Going.{Going}
-use Rattle.aeth_stimuli.specs.Loaded.{loaded_as, no_lane}
-use Rattle.aeth_stimuli.specs.Stimuli.{Offer, Stimuli, Take, stimuli_of}
-use Rattle.aeth_stimuli.specs.Events.{events_in}
+use Rattle.aeth_stimuli.specs.{Loaded.loaded_as, Loaded.no_lane, Stimuli.Offer, Stimuli.Stimuli}
+use Rattle.aeth_stimuli.specs.{Stimuli.Take, Stimuli.stimuli_of, Events.events_in}
 use Rattle.aeth_running.specs.FirstLog.{first_log}
 use Rattle.aeth_running.specs.Routing.{Routing, entered_first, entered_with, enterings_in, kind_of}
 

@@ -5,15 +5,13 @@
 --   IsQuiet      a cycle that leaves a network with empty wires, where those before it do
 --   AreStill, IsNextBusy      so many cycles leave a network, and the next cycle that doesn't
 -- This project's own.
-use Rattle.std.specs.Prelude.{◌≡◌, ◌≤◌, ◌<◌, ◌+◌, ◌-◌, ◌++◌, ℕ, zero, suc, false, true, []}
-use Rattle.std.specs.Prelude.{All, List, Some, fold, map, slice_get}
+use Rattle.std.proofs.Common.{◌≡◌, ◌≤◌, ◌<◌, ◌+◌, ◌-◌, ◌++◌, ℕ, zero, suc, false, true, [], All}
+use Rattle.std.proofs.Common.{List, Some, fold, map, slice_get}
 use Rattle.std.specs.List.{slice_index_or}
 use Rattle.aeth_router.specs.declared.part.Part.{Part}
 use Rattle.aeth_trace.specs.Channels.{channel_number}
-use Rattle.aeth_components.specs.Lanes.{is_open}
-use Rattle.aeth_components.specs.Phases.{asked_of}
-use Rattle.aeth_components.specs.Turns.{sends_own}
-use Rattle.aeth_components.specs.declared.lane.Lane.{Lane}
+use Rattle.aeth_components.specs.{Lanes.is_open, Phases.asked_of, Turns.sends_own}
+use Rattle.aeth_components.specs.{declared.lane.Lane.Lane}
 use Rattle.aeth_schedule.specs.Windows.{IsWithin}
 use Rattle.aeth_stimuli.specs.Loaded.{no_lane}
 use Rattle.aeth_running.specs.Network.{NetworkState, goings_in, offers_in, outside_in, played}

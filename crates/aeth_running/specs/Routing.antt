@@ -7,13 +7,11 @@
 --   AreRowsOn      rows that routers of a chip can have
 --   AreTablesFor, IsRoutingFor      tables that have the sessions of accepted inputs
 -- Tables in routers: this project's own.
-use Rattle.std.specs.Prelude.{◌≡◌, ◌<◌, ◌+◌, ◌==◌, ℕ, All, Contains, List, [], filter, fold, nat_lt}
+use Rattle.std.proofs.Common.{◌≡◌, ◌<◌, ◌+◌, ◌==◌, ℕ, All, Contains, List, [], filter, fold, nat_lt}
 use Rattle.std.specs.List.Sorted.{IsNonDecreasingBy}
 use Rattle.aeth_chip.specs.Chip.{ChipData}
-use Rattle.aeth_router.specs.Rows.{AreRowsFor}
-use Rattle.aeth_router.specs.TableRouter.{new_table_router}
-use Rattle.aeth_router.specs.declared.part.Part.{Part}
-use Rattle.aeth_router.specs.declared.router_row.RouterRow.{RouterRow}
+use Rattle.aeth_router.specs.{Rows.AreRowsFor, TableRouter.new_table_router}
+use Rattle.aeth_router.specs.{declared.part.Part.Part, declared.router_row.RouterRow.RouterRow}
 use Rattle.aeth_report.specs.Sessions.{Switch}
 use Rattle.aeth_components.specs.Entering.{with_rows}
 use Rattle.aeth_components.specs.declared.making.RouterKind.{RouterKind}

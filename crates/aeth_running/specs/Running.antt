@@ -5,7 +5,7 @@
 --   IsRunning      what holds of the components before a cycle
 --   IsServing      what holds of them once they are ready for it
 -- This project's own.
-use Rattle.std.specs.Prelude.{◌≡◌, ◌≤◌, ◌<◌, ℕ, ◌+◌, ◌*◌, min, Some, length, slice_get}
+use Rattle.std.proofs.Common.{◌≡◌, ◌≤◌, ◌<◌, ℕ, ◌+◌, ◌*◌, min, Some, length, slice_get}
 use Rattle.aeth_server.specs.PrivateServer.{landed, taken}
 use Rattle.aeth_components.specs.Components.{ComponentsState, IsComponents, frames_of}
 use Rattle.aeth_components.specs.declared.lane.Lane.{Lane}
@@ -13,11 +13,9 @@ use Rattle.aeth_refinement.specs.Fabric.{server_at}
 use Rattle.aeth_accepted.specs.Inputs.{Inputs}
 use Rattle.aeth_fabric.specs.Fabric.{fabric_of}
 use Rattle.aeth_schedule.specs.Values.{values_of}
-use Rattle.aeth_invariant.specs.Following.{Follows}
-use Rattle.aeth_invariant.specs.Running.{Prepares, Runs}
-use Rattle.aeth_invariant.specs.Telling.{CountsFlits, HasTold, NotesLandings}
-use Rattle.aeth_stimuli.specs.Loaded.{loaded_components}
-use Rattle.aeth_stimuli.specs.Sessions.{channel_of, first_of}
+use Rattle.aeth_invariant.specs.{Following.Follows, Running.Prepares, Running.Runs}
+use Rattle.aeth_invariant.specs.{Telling.CountsFlits, Telling.HasTold, Telling.NotesLandings}
+use Rattle.aeth_stimuli.specs.{Loaded.loaded_components, Sessions.channel_of, Sessions.first_of}
 
 module _ (inputs : Inputs) where
   -- A session went before cycle t, and no later one of its channel did.

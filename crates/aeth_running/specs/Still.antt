@@ -8,11 +8,9 @@
 -- whoever passes over cycle 0 lets these go first. Rows of receivers count in no cycle, and hold from theirs on.
 --
 -- This project's own.
-use Rattle.std.specs.Prelude.{◌≡◌, ◌<◌, ◌+◌, ℕ, true, [], None, Some, All, fold, slice_get}
+use Rattle.std.proofs.Common.{◌≡◌, ◌<◌, ◌+◌, ℕ, true, [], None, Some, All, fold, slice_get}
 use Rattle.aeth_clocked.specs.Wires.{flit_on}
-use Rattle.aeth_components.specs.Lanes.{is_open}
-use Rattle.aeth_components.specs.Phases.{asked_of}
-use Rattle.aeth_components.specs.declared.lane.Lane.{Lane}
+use Rattle.aeth_components.specs.{Lanes.is_open, Phases.asked_of, declared.lane.Lane.Lane}
 use Rattle.aeth_schedule.specs.Windows.{IsWithin}
 use Rattle.aeth_stimuli.specs.Events.{events_in}
 use Rattle.aeth_running.specs.Network.{NetworkState, goings_in, offers_in, ready_in, stepped}

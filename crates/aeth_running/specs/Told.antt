@@ -6,8 +6,8 @@
 --   told      the log
 --   network_log      the log of the network of inputs, once it has played all cycles
 -- This project's own.
-use Rattle.std.specs.Prelude.{ℕ, suc, nat_lt, List, [], ◌∷◌, ◌++◌, count_by, drop}
-use Rattle.std.specs.Prelude.{filter, map, slice_index, take}
+use Rattle.std.proofs.Common.{ℕ, suc, nat_lt, List, [], ◌∷◌, ◌++◌, count_by, drop, filter, map}
+use Rattle.std.proofs.Common.{slice_index, take}
 use Rattle.std.specs.List.{slice_index_or, zip}
 use Rattle.aeth_report.specs.Log.{ChannelData, LogData, SessionData}
 use Rattle.aeth_report.specs.declared.log.Landing.{Landing}
@@ -16,8 +16,7 @@ use Rattle.aeth_refinement.specs.Carried.{words_from}
 use Rattle.aeth_accepted.specs.Inputs.{Inputs}
 use Rattle.aeth_running.specs.Network.{NetworkState, first_network, played}
 use Rattle.aeth_running.specs.Routing.{Routing}
-use Rattle.aeth_stimuli.specs.Loaded.{no_lane}
-use Rattle.aeth_stimuli.specs.Stimuli.{is_over}
+use Rattle.aeth_stimuli.specs.{Loaded.no_lane, Stimuli.is_over}
 
 -- How the channel of a number stood at the end of each of its sessions: when the next one went, or
 -- at the end of the run.

@@ -1,13 +1,11 @@
 -- What a proof unfolds to compute a log and its text on inputs that are written out.
-use Rattle.std.specs.Prelude.{⊤}
-use Rattle.std.specs.Fmt.{digits}
+use Rattle.std.specs.{Prelude.⊤, Fmt.digits}
 use Rattle.aeth_app.specs.Rates.{need_of}
 use Rattle.aeth_group.specs.Groups.{group_count, group_of, is_chained}
 use Rattle.aeth_group.specs.Members.{groups_of}
 use Rattle.aeth_header.specs.Header.{fields_of, word_of}
-use Rattle.aeth_server.specs.Latency.{latency_of}
-use Rattle.aeth_server.specs.PrivateServer.{counts, history}
-use Rattle.aeth_server.specs.SlotCycles.{nth_slot}
+use Rattle.aeth_server.specs.{Latency.latency_of, PrivateServer.counts, PrivateServer.history}
+use Rattle.aeth_server.specs.{SlotCycles.nth_slot}
 use Rattle.aeth_text.specs.Spelling.{side_word}
 use Rattle.aeth_report.specs.LogText.{drop_line, head_line, landing_line, link_line, outside_line}
 use Rattle.aeth_report.specs.LogText.{session_line, state_word, text_of}

@@ -1,12 +1,10 @@
 -- Worked audits: what is to be answered for logs of the links of the worked designs.
-use Rattle.std.specs.Prelude.{◌≡◌, ℕ, List, [], ◌∷◌, map}
-use Rattle.aeth_trace.specs.Spans.{SpanData}
-use Rattle.aeth_trace.specs.declared.switches.SwitchRow.{SwitchRow}
+use Rattle.std.proofs.Common.{◌≡◌, ℕ, List, [], ◌∷◌, map}
+use Rattle.aeth_trace.specs.{Spans.SpanData, declared.switches.SwitchRow.SwitchRow}
 use Rattle.aeth_reconf.specs.Timeline.{timeline_of}
 use Rattle.aeth_report.specs.Design.{Design}
 use Rattle.aeth_audit.specs.Audit.{audit_of}
-use Rattle.aeth_audit.specs.declared.verdict.Audit.{Audit}
-use Rattle.aeth_audit.specs.declared.verdict.Audit.TheVariants.{Clean, Fault}
+use Rattle.aeth_audit.specs.declared.verdict.Audit.{Audit, TheVariants.Clean, TheVariants.Fault}
 use Rattle.aeth_audit.specs.declared.row.LinkRow.{LinkRow}
 use Rattle.aeth_runs_tests.specs.Designs.{one_design, one_spans, slow_design, two_design, two_spans}
 use Rattle.aeth_runs_tests.specs.Traces.{switch}

@@ -1,15 +1,11 @@
 -- Worked chains: what runs of them are to print. A table of 8 slots; connection 0 between two interfaces,
 -- by a path of 3 links each way, and connection 1 beside it within an interface, by one of 2.
-use Rattle.std.specs.Prelude.{◌≡◌, ℕ, List, [], ◌∷◌, ◌++◌, codes}
+use Rattle.std.proofs.Common.{◌≡◌, ℕ, List, [], ◌∷◌, ◌++◌, codes}
 use Rattle.aeth_base.specs.declared.ids.Channel.{Channel}
-use Rattle.aeth_base.specs.declared.ids.Side.{Side}
-use Rattle.aeth_base.specs.declared.ids.Side.TheVariants.{Back, Fwd}
+use Rattle.aeth_base.specs.declared.ids.Side.{Side, TheVariants.Back, TheVariants.Fwd}
 use Rattle.aeth_text.specs.Spelling.{text_of_lines}
-use Rattle.aeth_trace.specs.declared.receivers.PullRow.{PullRow}
-use Rattle.aeth_trace.specs.declared.words.WordRow.{WordRow}
-use Rattle.aeth_chain.specs.Chain.{Leg, bound_of}
-use Rattle.aeth_chain.specs.ChainRun.{chain_log}
-use Rattle.aeth_chain.specs.ChainText.{chain_lines}
+use Rattle.aeth_trace.specs.declared.{receivers.PullRow.PullRow, words.WordRow.WordRow}
+use Rattle.aeth_chain.specs.{Chain.Leg, Chain.bound_of, ChainRun.chain_log, ChainText.chain_lines}
 
 -- A channel.
 abbrev channel : ℕ → Side → Channel

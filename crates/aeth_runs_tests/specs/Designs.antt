@@ -5,22 +5,17 @@
 --   one_design, slow_design      one connection, on either chip
 --   two_design      two connections, and a smooth pair of use cases
 --   still, one_spans, two_spans      how long switches take
-use Rattle.std.specs.Prelude.{ℕ, List, [], ◌∷◌, Bool, true, false, Some, codes, map}
+use Rattle.std.proofs.Common.{ℕ, List, [], ◌∷◌, Bool, true, false, Some, codes, map}
 use Rattle.aeth_base.specs.declared.ids.LinkId.{LinkId}
-use Rattle.aeth_base.specs.declared.ids.Side.{Side}
-use Rattle.aeth_base.specs.declared.ids.Side.TheVariants.{Back, Fwd}
+use Rattle.aeth_base.specs.declared.ids.Side.{Side, TheVariants.Back, TheVariants.Fwd}
 use Rattle.aeth_chip.specs.Chip.{ChipData}
 use Rattle.aeth_chip.specs.declared.node.Link.{Link}
-use Rattle.aeth_chip.specs.declared.node.Node.{Node}
-use Rattle.aeth_chip.specs.declared.node.Node.TheVariants.{Ni, Router}
+use Rattle.aeth_chip.specs.declared.node.Node.{Node, TheVariants.Ni, TheVariants.Router}
 use Rattle.aeth_app.specs.App.{AppData, UseData}
-use Rattle.aeth_app.specs.declared.connection.Connection.{Connection}
-use Rattle.aeth_app.specs.declared.connection.Core.{Core}
-use Rattle.aeth_app.specs.declared.connection.Price.TheVariants.{Hops}
-use Rattle.aeth_app.specs.declared.connection.Wish.{Wish}
+use Rattle.aeth_app.specs.declared.connection.{Connection.Connection, Core.Core}
+use Rattle.aeth_app.specs.declared.connection.{Price.TheVariants.Hops, Wish.Wish}
 use Rattle.aeth_group.specs.Members.{GroupsData}
-use Rattle.aeth_group.specs.declared.grant.Grant.{Grant}
-use Rattle.aeth_group.specs.declared.grant.SeatLine.{SeatLine}
+use Rattle.aeth_group.specs.declared.grant.{Grant.Grant, SeatLine.SeatLine}
 use Rattle.aeth_trace.specs.Spans.{SpanData}
 use Rattle.aeth_report.specs.Design.{Design}
 

@@ -1,12 +1,8 @@
 -- Worked texts: what runs of the worked designs are to print.
-use Rattle.std.specs.Prelude.{◌≡◌, ℕ, List, [], ◌∷◌, ◌++◌, codes}
-use Rattle.aeth_trace.specs.Spans.{SpanData}
-use Rattle.aeth_trace.specs.declared.receivers.PullRow.{PullRow}
-use Rattle.aeth_trace.specs.declared.switches.SwitchRow.{SwitchRow}
-use Rattle.aeth_trace.specs.declared.words.WordRow.{WordRow}
-use Rattle.aeth_report.specs.Design.{Design}
-use Rattle.aeth_report.specs.LogText.{text_of}
-use Rattle.aeth_report.specs.RunLog.{log_of}
+use Rattle.std.proofs.Common.{◌≡◌, ℕ, List, [], ◌∷◌, ◌++◌, codes}
+use Rattle.aeth_trace.specs.{Spans.SpanData, declared.receivers.PullRow.PullRow}
+use Rattle.aeth_trace.specs.{declared.switches.SwitchRow.SwitchRow, declared.words.WordRow.WordRow}
+use Rattle.aeth_report.specs.{Design.Design, LogText.text_of, RunLog.log_of}
 use Rattle.aeth_runs_tests.specs.Designs.{one_design, one_spans, slow_design, two_design, two_spans}
 use Rattle.aeth_runs_tests.specs.Traces.{five_words, holds, many_words, offers, seven_words, switch}
 

@@ -1,10 +1,8 @@
 -- Rows of worked traces.
-use Rattle.std.specs.Prelude.{ℕ, List, [], ◌∷◌, ◌++◌, map}
-use Rattle.aeth_base.specs.declared.ids.Channel.{Channel}
-use Rattle.aeth_base.specs.declared.ids.Side.TheVariants.{Fwd}
-use Rattle.aeth_trace.specs.declared.receivers.PullRow.{PullRow}
-use Rattle.aeth_trace.specs.declared.switches.SwitchRow.{SwitchRow}
-use Rattle.aeth_trace.specs.declared.words.WordRow.{WordRow}
+use Rattle.std.proofs.Common.{ℕ, List, [], ◌∷◌, ◌++◌, map}
+use Rattle.aeth_base.specs.declared.ids.{Channel.Channel, Side.TheVariants.Fwd}
+use Rattle.aeth_trace.specs.declared.{receivers.PullRow.PullRow, switches.SwitchRow.SwitchRow}
+use Rattle.aeth_trace.specs.declared.{words.WordRow.WordRow}
 
 abbrev forward : ℕ → Channel
 forward c = record { conn = record { 0 = c }; side = Fwd }

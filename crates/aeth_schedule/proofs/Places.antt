@@ -1,16 +1,12 @@
 -- The words of channels, one more at a time.
-use Rattle.std.proofs.Common.{◌≡◌, ◌≤◌, ◌++◌, ◌+◌, ◌∙◌, ℕ, suc, List, [], ◌∷◌, Some, ap, arith, length, map}
-use Rattle.std.proofs.Common.{slice_get, sym, take}
-use Rattle.std.specs.Prelude.{flat_map}
-use Rattle.std.specs.List.{range_with_len}
-use Rattle.std.proofs.lemmas.List.{append_assoc, flat_map_more, map-append}
+use Rattle.std.proofs.Common.{◌≡◌, ◌≤◌, ◌++◌, ◌+◌, ◌∙◌, ℕ, suc, List, [], ◌∷◌, Some, ap, arith}
+use Rattle.std.proofs.Common.{length, map, slice_get, sym, take, flat_map, append_assoc}
+use Rattle.std.proofs.lemmas.List.{flat_map_more, map-append}
 use Rattle.std.proofs.lemmas.List.Sums.{count_by-le-length, length-filter}
-use Rattle.aeth_base.specs.declared.ids.Channel.{Channel}
-use Rattle.aeth_base.proofs.Ranges.{range_with_len-more}
+use Rattle.std.specs.List.{range_with_len}
+use Rattle.aeth_base.{specs.declared.ids.Channel.Channel, proofs.Ranges.range_with_len-more}
 use Rattle.aeth_group.proofs.ListLemmas.{take-at}
-use Rattle.aeth_trace.specs.Channels.{is_channel}
-use Rattle.aeth_trace.specs.Words.{words_on}
-use Rattle.aeth_trace.specs.declared.words.WordRow.{WordRow}
+use Rattle.aeth_trace.specs.{Channels.is_channel, Words.words_on, declared.words.WordRow.WordRow}
 use Rattle.aeth_schedule.specs.Values.{values_of, values_with}
 
 -- A channel has no more words than there are.

@@ -1,7 +1,6 @@
 -- The rows of switches.
 use Rattle.std.proofs.Common.{◌<◌, ℕ, All, length, subst, sym}
-use Rattle.aeth_group.specs.Members.{groups_of}
-use Rattle.aeth_group.proofs.MemberLemmas.{length-groups_of}
+use Rattle.aeth_group.{specs.Members.groups_of, proofs.MemberLemmas.length-groups_of}
 use Rattle.aeth_trace.specs.declared.switches.SwitchRow.{SwitchRow}
 use Rattle.aeth_accepted.specs.Inputs.{AreAccepted, Inputs}
 

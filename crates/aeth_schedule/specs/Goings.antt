@@ -4,22 +4,19 @@
 --   session_by, going_in, going_by      the session of a connection that comes with a use case
 --   goings_behind, goings_from, goings_over, goings_of      those of rows, and of a run
 -- Channels that go on through a switch: this project's own.
-use Rattle.std.specs.Prelude.{ℕ, ◌+◌, ◌-◌, min, nat_lt, List, [], ◌∷◌, ◌++◌, filter, map, Option}
-use Rattle.std.specs.Prelude.{Some, None}
+use Rattle.std.proofs.Common.{ℕ, ◌+◌, ◌-◌, min, nat_lt, List, [], ◌∷◌, ◌++◌, filter, map, Option}
+use Rattle.std.proofs.Common.{Some, None}
 use Rattle.aeth_group.specs.Members.{GroupsData, group_at, groups_of}
 use Rattle.aeth_trace.specs.Spans.{SpanData}
-use Rattle.aeth_trace.specs.declared.switches.SwitchRow.{SwitchRow}
-use Rattle.aeth_trace.specs.declared.words.WordRow.{WordRow}
-use Rattle.aeth_report.specs.declared.session.Close.{Close}
-use Rattle.aeth_report.specs.declared.session.Session.{Session}
+use Rattle.aeth_trace.specs.declared.{switches.SwitchRow.SwitchRow, words.WordRow.WordRow}
+use Rattle.aeth_report.specs.declared.session.{Close.Close, Session.Session}
 use Rattle.aeth_report.specs.Flows.{close_at}
 use Rattle.aeth_report.specs.Sessions.{Switch, closing_in, go_of, session_of}
 use Rattle.aeth_components.specs.declared.lane.Lane.{Lane}
 use Rattle.aeth_accepted.specs.Inputs.{Inputs, run_of}
 use Rattle.aeth_schedule.specs.Lines.{all_lines, changed_lines, end_of, lines_at}
 use Rattle.aeth_schedule.specs.Values.{before_of, start_of}
-use Rattle.aeth_schedule.specs.declared.going.Going.{Going}
-use Rattle.aeth_schedule.specs.declared.lines.Line.{Line}
+use Rattle.aeth_schedule.specs.declared.{going.Going.Going, lines.Line.Line}
 
 module _ (words : List WordRow) where
   -- A channel whose session goes in a cycle, and so closes: nothing of it is done.

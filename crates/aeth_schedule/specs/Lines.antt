@@ -5,7 +5,7 @@
 --   lines_in_use, lines_of, all_lines      the channels of a use case, in channel order, and those of all
 --   lines_at, changed_lines      those of one out of all, and those that a switch doesn't keep
 -- Connections with a channel each way: after Æthereal (2005).
-use Rattle.std.specs.Prelude.{ℕ, not, List, [], ◌∷◌, filter, length, map}
+use Rattle.std.proofs.Common.{ℕ, not, List, [], ◌∷◌, filter, length, map}
 use Rattle.std.specs.List.{range_with_len, slice_index_or}
 use Rattle.aeth_chip.specs.Chip.{ChipData}
 use Rattle.aeth_app.specs.App.{AppData}

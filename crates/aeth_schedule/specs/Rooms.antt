@@ -5,15 +5,14 @@
 --   landing_number      the queue at which a channel with a buffer lands
 --   raised, raised_all      one channel more
 -- Buffers at the receiving interface: after Æthereal (2005).
-use Rattle.std.specs.Prelude.{ℕ, ◌+◌, ◌*◌, ◌==◌, max, List, filter, flat_map, fold, length, map}
-use Rattle.std.specs.Prelude.{slice_index, slice_set}
+use Rattle.std.proofs.Common.{ℕ, ◌+◌, ◌*◌, ◌==◌, max, List, filter, flat_map, fold, length, map}
+use Rattle.std.proofs.Common.{slice_index, slice_set}
 use Rattle.std.specs.List.{range_with_len}
 use Rattle.aeth_slots.specs.SlotSet.{greatest}
 use Rattle.aeth_ni.specs.Limits.{queues_of_interface}
 use Rattle.aeth_accepted.specs.Inputs.{Inputs}
-use Rattle.aeth_schedule.specs.Lines.{all_lines}
+use Rattle.aeth_schedule.specs.{Lines.all_lines, declared.lines.Line.Line}
 use Rattle.aeth_tables.specs.declared.buffering.Buffer.{Buffer}
-use Rattle.aeth_schedule.specs.declared.lines.Line.{Line}
 
 -- The number of the queue at which a channel lands, among those of all interfaces.
 abbrev pub queue_number : Line → ℕ

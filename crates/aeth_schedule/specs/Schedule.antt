@@ -1,14 +1,11 @@
 -- What a run does, cycle by cycle.
 -- This project's own.
-use Rattle.std.specs.Prelude.{ℕ, List, map}
+use Rattle.std.proofs.Common.{ℕ, List, map}
 use Rattle.aeth_components.specs.declared.event.Event.{Event}
 use Rattle.aeth_accepted.specs.Inputs.{Inputs, run_of}
-use Rattle.aeth_schedule.specs.Goings.{goings_of}
-use Rattle.aeth_schedule.specs.Rooms.{rooms_of}
-use Rattle.aeth_schedule.specs.Switching.{loaded_of, timed_of}
-use Rattle.aeth_schedule.specs.Windows.{windows_over}
-use Rattle.aeth_schedule.specs.declared.going.Going.{Going}
-use Rattle.aeth_schedule.specs.declared.windows.Window.{Window}
+use Rattle.aeth_schedule.specs.{Goings.goings_of, Rooms.rooms_of, Switching.loaded_of}
+use Rattle.aeth_schedule.specs.{Switching.timed_of, Windows.windows_over}
+use Rattle.aeth_schedule.specs.{declared.going.Going.Going, declared.windows.Window.Window}
 
 -- What is written before the first cycle, the events and the cycle of each, the sessions in the order
 -- in which they go, the windows of all switches, and the rooms of all receive queues.

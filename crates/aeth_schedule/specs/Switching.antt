@@ -5,18 +5,15 @@
 --   loaded_by, loaded_of      what is written before the first cycle
 -- Slot tables that are written while the network runs: after Æthereal (2005). The rest: this
 -- project's own.
-use Rattle.std.specs.Prelude.{ℕ, ◌==◌, List, [], ◌∷◌, filter, flat_map, map}
+use Rattle.std.proofs.Common.{ℕ, ◌==◌, List, [], ◌∷◌, filter, flat_map, map}
 use Rattle.aeth_group.specs.Members.{group_at, groups_of, has_at}
-use Rattle.aeth_ni.specs.Program.{program_of}
+use Rattle.aeth_ni.specs.{Program.program_of, declared.write.Write.Write}
 use Rattle.aeth_trace.specs.declared.switches.SwitchRow.{SwitchRow}
 use Rattle.aeth_report.specs.Sessions.{Switch, close_by}
 use Rattle.aeth_reconf.specs.Rows.{rows_closing, rows_opening, rows_that}
-use Rattle.aeth_components.specs.declared.event.Event.{Event}
-use Rattle.aeth_components.specs.declared.event.Event.TheVariants.{Change}
-use Rattle.aeth_ni.specs.declared.write.Write.{Write}
+use Rattle.aeth_components.specs.declared.event.Event.{Event, TheVariants.Change}
 use Rattle.aeth_accepted.specs.Inputs.{Inputs, design_of, row_at, run_of}
-use Rattle.aeth_schedule.specs.Timed.{events_with, within}
-use Rattle.aeth_schedule.specs.declared.timed.Timed.{Timed}
+use Rattle.aeth_schedule.specs.{Timed.events_with, Timed.within, declared.timed.Timed.Timed}
 
 -- Rows as switches, the first of which leaves this use case.
 abbrev pub switches_from : ℕ → List SwitchRow → List Switch

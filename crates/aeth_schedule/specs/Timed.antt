@@ -6,18 +6,16 @@
 --   switching_events, events_with      those of a switch
 -- Slot tables that are written while the network runs: after Æthereal (2005). One write in a cycle,
 -- through one central port: this project's own.
-use Rattle.std.specs.Prelude.{ℕ, ◌+◌, nat_lt, List, [], ◌∷◌, ◌++◌, filter, map}
+use Rattle.std.proofs.Common.{ℕ, ◌+◌, nat_lt, List, [], ◌∷◌, ◌++◌, filter, map}
 use Rattle.aeth_ni.specs.Program.{program_of}
-use Rattle.aeth_ni.specs.declared.row.ChannelRow.{ChannelRow}
-use Rattle.aeth_ni.specs.declared.write.Write.{Write}
+use Rattle.aeth_ni.specs.declared.{row.ChannelRow.ChannelRow, write.Write.Write}
 use Rattle.aeth_report.specs.declared.session.Close.{Close}
 use Rattle.aeth_components.specs.declared.event.Event.{Event}
 use Rattle.aeth_components.specs.declared.event.Event.TheVariants.{Change, Finish, Halt}
 use Rattle.aeth_components.specs.declared.lane.ChannelEnd.{ChannelEnd}
 use Rattle.aeth_schedule.specs.Lines.{end_of}
-use Rattle.aeth_schedule.specs.declared.timed.Closing.{Closing}
-use Rattle.aeth_schedule.specs.declared.timed.Closing.TheVariants.{Finishes, Halts}
-use Rattle.aeth_schedule.specs.declared.timed.Timed.{Timed}
+use Rattle.aeth_schedule.specs.declared.timed.{Closing.Closing, Closing.TheVariants.Finishes}
+use Rattle.aeth_schedule.specs.declared.timed.{Closing.TheVariants.Halts, Timed.Timed}
 
 -- What becomes of a channel that closes and is sent from this queue.
 abbrev pub event_by : Closing → ChannelEnd → Event

@@ -5,14 +5,11 @@
 --   ahead_of, start_of      the place of a channel's first word
 --   before_of      the words that are offered before a cycle
 -- This project's own.
-use Rattle.std.specs.Prelude.{ℕ, zero, suc, ◌+◌, ◌++◌, List, flat_map, length, map}
+use Rattle.std.proofs.Common.{ℕ, zero, suc, ◌+◌, ◌++◌, List, flat_map, length, map}
 use Rattle.std.specs.List.{range_with_len}
-use Rattle.aeth_base.specs.declared.ids.Channel.{Channel}
-use Rattle.aeth_base.specs.declared.ids.ConnId.{ConnId}
-use Rattle.aeth_base.specs.declared.ids.Side.{Side}
-use Rattle.aeth_base.specs.declared.ids.Side.TheVariants.{Back, Fwd}
-use Rattle.aeth_trace.specs.Words.{words_on, words_until}
-use Rattle.aeth_trace.specs.declared.words.WordRow.{WordRow}
+use Rattle.aeth_base.specs.declared.ids.{Channel.Channel, ConnId.ConnId, Side.Side}
+use Rattle.aeth_base.specs.declared.ids.{Side.TheVariants.Back, Side.TheVariants.Fwd}
+use Rattle.aeth_trace.specs.{Words.words_on, Words.words_until, declared.words.WordRow.WordRow}
 
 -- The values of a channel's words, in file order.
 abbrev pub values_on : List WordRow → Channel → List ℕ

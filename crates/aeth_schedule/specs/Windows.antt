@@ -4,12 +4,10 @@
 --   window_by, windows_over      the window of a switch, and those of the switches of rows
 --   IsWithin      a cycle is one of a window
 -- This project's own.
-use Rattle.std.specs.Prelude.{◌≡◌, ◌≤◌, ℕ, List, map}
-use Rattle.aeth_trace.specs.Spans.{SpanData}
-use Rattle.aeth_trace.specs.declared.switches.SwitchRow.{SwitchRow}
+use Rattle.std.proofs.Common.{◌≡◌, ◌≤◌, ℕ, List, map}
+use Rattle.aeth_trace.specs.{Spans.SpanData, declared.switches.SwitchRow.SwitchRow}
 use Rattle.aeth_report.specs.Sessions.{Switch, close_by, go_by}
-use Rattle.aeth_schedule.specs.Switching.{later_switches}
-use Rattle.aeth_schedule.specs.declared.windows.Window.{Window}
+use Rattle.aeth_schedule.specs.{Switching.later_switches, declared.windows.Window.Window}
 
 -- In a cycle a switch does something, which stops words, stops channels, has finished them, and lets
 -- others go in these cycles: it stops words or channels then, or it is done with what closes and what

@@ -1,24 +1,20 @@
 -- The use cases that rows enter, and connections that are kept between all of them.
 use Rattle.std.proofs.Common.{◌≡◌, ◌≢◌, ◌∙◌, ◌<◌, ◌++◌, ◌==◌, ℕ, List, [], ◌∷◌, None, All, Contains}
-use Rattle.std.proofs.Common.{◌≤◌, ◌-◌, ◌+◌, arith, ap, drop, get_or, length, refl, subst, sym, take}
-use Rattle.std.specs.Prelude.{IsTrue}
-use Rattle.std.proofs.lemmas.Bool.{eq-eqb, eqb-true, or_left, or_right}
-use Rattle.std.proofs.lemmas.List.{drop_more, get_or_default, length-drop, take_all}
-use Rattle.std.proofs.lemmas.List.Elements.{All-drop, All-head, All-push, All-tail, All-weaker}
-use Rattle.std.proofs.lemmas.List.Elements.{Contains-append_left, Contains-append_right}
-use Rattle.std.proofs.lemmas.List.Folds.{list_any-append}
-use Rattle.std.proofs.lemmas.List.Quantifiers.{all_pairs_push}
-use Rattle.aeth_base.specs.Limits.{max_cycles}
-use Rattle.aeth_base.specs.declared.ids.UseId.{UseId}
+use Rattle.std.proofs.Common.{◌≤◌, ◌-◌, ◌+◌, arith, ap, drop, get_or, length, refl, subst, sym}
+use Rattle.std.proofs.Common.{take, IsTrue, eq-eqb, eqb-true, length-drop, take_all}
+use Rattle.std.proofs.lemmas.Bool.{or_left, or_right}
+use Rattle.std.proofs.lemmas.List.{drop_more, get_or_default, Elements.All-drop, Elements.All-head}
+use Rattle.std.proofs.lemmas.List.{Elements.All-push, Elements.All-tail, Elements.All-weaker}
+use Rattle.std.proofs.lemmas.List.{Elements.Contains-append_left, Elements.Contains-append_right}
+use Rattle.std.proofs.lemmas.List.{Folds.list_any-append, Quantifiers.all_pairs_push}
+use Rattle.aeth_base.specs.{Limits.max_cycles, declared.ids.UseId.UseId}
 use Rattle.aeth_base.proofs.Members.{Contains-here}
-use Rattle.aeth_group.specs.Members.{GroupsData}
-use Rattle.aeth_group.proofs.ListLemmas.{passes_from_any}
+use Rattle.aeth_group.{specs.Members.GroupsData, proofs.ListLemmas.passes_from_any}
 use Rattle.aeth_trace.specs.declared.switches.SwitchRow.{SwitchRow}
 use Rattle.aeth_report.specs.Sessions.{closing_in}
 use Rattle.aeth_tables.proofs.ListLaws.{all_has}
-use Rattle.aeth_scheduling.specs.Entered.{AreUsesOf, is_entered}
-use Rattle.aeth_scheduling.specs.Made.{AreRows}
-use Rattle.aeth_scheduling.specs.Staying.{AreEntered, IsKeptThroughout}
+use Rattle.aeth_scheduling.specs.{Entered.AreUsesOf, Entered.is_entered, Made.AreRows}
+use Rattle.aeth_scheduling.specs.{Staying.AreEntered, Staying.IsKeptThroughout}
 
 -- An item of a list and those behind it are the list from there on.
 pub list-from : {X : Type 0} (xs : List X) (place : ℕ) (default : X) → place < length xs

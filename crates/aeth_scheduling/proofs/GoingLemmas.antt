@@ -1,18 +1,14 @@
 -- Sessions that go within a run.
-use Rattle.std.proofs.Common.{◌≡◌, ◌≤◌, ◌<◌, ◌+◌, ◌-◌, ◌++◌, ℕ, List, [], ◌∷◌, Some, append_assoc, arith}
-use Rattle.std.proofs.Common.{drop, get_or, length, map, refl, take}
-use Rattle.std.specs.Prelude.{nat_lt}
-use Rattle.std.proofs.lemmas.Bool.Decides.{nat_tests}
-use Rattle.std.proofs.lemmas.List.{drop_more, length-drop, take_all}
-use Rattle.std.proofs.lemmas.List.Elements.{filter-append}
+use Rattle.std.proofs.Common.{◌≡◌, ◌≤◌, ◌<◌, ◌+◌, ◌-◌, ◌++◌, ℕ, List, [], ◌∷◌, Some, append_assoc}
+use Rattle.std.proofs.Common.{arith, drop, get_or, length, map, refl, take, nat_lt, length-drop}
+use Rattle.std.proofs.Common.{take_all}
+use Rattle.std.proofs.lemmas.{Bool.Decides.nat_tests, List.drop_more, List.Elements.filter-append}
 use Rattle.aeth_group.specs.Members.{GroupsData}
 use Rattle.aeth_trace.specs.Spans.{SpanData}
-use Rattle.aeth_trace.specs.declared.switches.SwitchRow.{SwitchRow}
-use Rattle.aeth_trace.specs.declared.words.WordRow.{WordRow}
+use Rattle.aeth_trace.specs.declared.{switches.SwitchRow.SwitchRow, words.WordRow.WordRow}
 use Rattle.aeth_schedule.specs.Goings.{going_by, going_within, goings_behind}
 use Rattle.aeth_schedule.specs.Lines.{changed_lines, lines_at}
-use Rattle.aeth_schedule.specs.declared.going.Going.{Going}
-use Rattle.aeth_schedule.specs.declared.lines.Line.{Line}
+use Rattle.aeth_schedule.specs.declared.{going.Going.Going, lines.Line.Line}
 
 -- Sessions that go past the end are none of the run's.
 pub going-late : {X : Type 0} (f : X → Going) (end go : ℕ) (xs : List X)

@@ -2,25 +2,22 @@
 -- opens.
 use Rattle.std.proofs.Common.{◌≡◌, ◌∙◌, ◌<◌, ◌≤◌, ◌-◌, ◌++◌, ◌&&◌, ℕ, Bool, not, List, [], ◌∷◌, ap}
 use Rattle.std.proofs.Common.{arith, filter, get_or, inl, inr, length, map, refl, sym, take, drop}
-use Rattle.std.specs.Prelude.{flat_map}
-use Rattle.std.proofs.lemmas.List.{append_assoc, take_all}
-use Rattle.std.specs.List.{range_with_len}
+use Rattle.std.proofs.Common.{flat_map, append_assoc, take_all}
 use Rattle.std.proofs.lemmas.Bool.{cases_Bool}
-use Rattle.aeth_base.specs.declared.ids.Channel.{Channel}
-use Rattle.aeth_base.specs.declared.ids.Side.TheVariants.{Back, Fwd}
-use Rattle.aeth_base.proofs.Filters.{filter-filter}
+use Rattle.std.specs.List.{range_with_len}
+use Rattle.aeth_base.{specs.declared.ids.Channel.Channel, specs.declared.ids.Side.TheVariants.Back}
+use Rattle.aeth_base.{specs.declared.ids.Side.TheVariants.Fwd, proofs.Filters.filter-filter}
 use Rattle.aeth_server.specs.declared.shape.ChannelShape.{ChannelShape}
 use Rattle.aeth_group.specs.Members.{GroupsData, group_at, groups_of, has_at, is_kept}
 use Rattle.aeth_ni.specs.declared.row.ChannelRow.{ChannelRow}
-use Rattle.aeth_report.specs.Channels.{channels_with}
-use Rattle.aeth_report.specs.Design.{Design}
+use Rattle.aeth_report.specs.{Channels.channels_with, Design.Design}
 use Rattle.aeth_reconf.specs.Rows.{rows_that}
 use Rattle.aeth_tables.specs.Tables.{tables_of}
 use Rattle.aeth_accepted.specs.Inputs.{AreAccepted, Inputs, design_of, row_at}
 use Rattle.aeth_accepted.proofs.TableFlows.{rows-of_tables}
 use Rattle.aeth_schedule.specs.Lines.{line_with, lines_of, lines_with}
-use Rattle.aeth_scheduling.specs.Made.{changed_rows}
 use Rattle.aeth_schedule.specs.declared.lines.Line.{Line}
+use Rattle.aeth_scheduling.specs.Made.{changed_rows}
 
 -- Lines have the rows that they were made from, where there are as many shapes.
 pub rows-with : (f : Channel → ChannelRow) (cs : List ℕ) (shapes : List ChannelShape)

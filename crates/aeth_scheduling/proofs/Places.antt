@@ -1,14 +1,11 @@
 -- How many words channels have.
 use Rattle.std.proofs.Common.{◌≡◌, ◌≤◌, ◌<◌, ◌+◌, ◌*◌, ◌∙◌, ℕ, zero, suc, List, arith, ap, length}
-use Rattle.std.proofs.Common.{get_or, map, refl}
+use Rattle.std.proofs.Common.{get_or, map, refl, length-append}
+use Rattle.std.proofs.lemmas.List.{length-map, FromFn.get_or-map-range_with_len}
 use Rattle.std.specs.List.{range_with_len}
-use Rattle.std.proofs.lemmas.List.{length-append, length-map}
-use Rattle.std.proofs.lemmas.List.FromFn.{get_or-map-range_with_len}
 use Rattle.aeth_base.specs.declared.ids.Channel.{Channel}
 use Rattle.aeth_base.specs.declared.ids.Side.TheVariants.{Back, Fwd}
-use Rattle.aeth_trace.specs.Limits.{max_rows}
-use Rattle.aeth_trace.specs.Words.{words_on}
-use Rattle.aeth_trace.specs.declared.words.WordRow.{WordRow}
+use Rattle.aeth_trace.specs.{Limits.max_rows, Words.words_on, declared.words.WordRow.WordRow}
 use Rattle.aeth_schedule.specs.Values.{values_of, values_on, values_with}
 use Rattle.aeth_schedule.proofs.Places.{on-few, values-more}
 

@@ -1,16 +1,14 @@
 -- The rooms for what the channels of all groups need are those for the channels of all use cases.
-use Rattle.std.proofs.Common.{◌≡◌, ◌∙◌, ◌<◌, ◌*◌, ◌==◌, ℕ, true, List, [], ◌∷◌, All, Contains, ap, arith}
-use Rattle.std.proofs.Common.{filter, inl, inr, length, map, refl, subst, sym}
-use Rattle.std.specs.Prelude.{flat_map}
-use Rattle.std.specs.List.{range_with_len}
+use Rattle.std.proofs.Common.{◌≡◌, ◌∙◌, ◌<◌, ◌*◌, ◌==◌, ℕ, true, List, [], ◌∷◌, All, Contains, ap}
+use Rattle.std.proofs.Common.{arith, filter, inl, inr, length, map, refl, subst, sym, flat_map}
 use Rattle.std.proofs.lemmas.Grind.{same_number_lists}
 use Rattle.std.proofs.lemmas.List.FromFn.{get_or-map-range_with_len, length-map-range_with_len}
-use Rattle.aeth_base.proofs.Members.{Contains-cases, Contains-filter, Contains-flat_map, Contains-here}
-use Rattle.aeth_base.proofs.Members.{Contains-map, Contains-nil, Contains-there, filter-Contains}
-use Rattle.aeth_base.proofs.Members.{flat_map-Contains, map-Contains}
+use Rattle.std.specs.List.{range_with_len}
+use Rattle.aeth_base.proofs.Members.{Contains-cases, Contains-filter, Contains-flat_map}
+use Rattle.aeth_base.proofs.Members.{Contains-here, Contains-map, Contains-nil, Contains-there}
+use Rattle.aeth_base.proofs.Members.{filter-Contains, flat_map-Contains, map-Contains}
 use Rattle.aeth_base.proofs.Ranges.{Contains-range, range-Contains}
-use Rattle.aeth_base.specs.declared.ids.Side.{Side}
-use Rattle.aeth_base.specs.declared.ids.Side.TheVariants.{Back, Fwd}
+use Rattle.aeth_base.specs.declared.ids.Side.{Side, TheVariants.Back, TheVariants.Fwd}
 use Rattle.aeth_chip.specs.Chip.{ChipData}
 use Rattle.aeth_app.specs.App.{AppData}
 use Rattle.aeth_group.specs.Members.{groups_of}

@@ -1,16 +1,15 @@
 -- The rooms of queues, for one channel more.
-use Rattle.std.proofs.Common.{◌≡◌, ◌∙◌, ◌<◌, ◌++◌, ◌==◌, ℕ, true, false, List, [], ◌∷◌, arith, filter, inl}
-use Rattle.std.proofs.Common.{inr, All, ap, get_or, map, max, refl, subst, sym}
-use Rattle.std.specs.List.{range_with_len}
-use Rattle.std.specs.Prelude.{replicate, slice_index, slice_set}
-use Rattle.std.proofs.lemmas.Bool.{cases_Bool, eqb-false, eqb-true}
+use Rattle.std.proofs.Common.{◌≡◌, ◌∙◌, ◌<◌, ◌++◌, ◌==◌, ℕ, true, false, List, [], ◌∷◌, arith}
+use Rattle.std.proofs.Common.{filter, inl, inr, All, ap, get_or, map, max, refl, subst, sym}
+use Rattle.std.proofs.Common.{replicate, slice_index, slice_set, eqb-true, append-nil, append_assoc}
+use Rattle.std.proofs.Common.{get_or-set_other, get_or-set_same, length-set}
+use Rattle.std.proofs.lemmas.Bool.{cases_Bool, eqb-false}
 use Rattle.std.proofs.lemmas.Grind.{same_number_lists}
-use Rattle.std.proofs.lemmas.List.{append-nil, append_assoc, get_or-replicate, get_or-set_other}
-use Rattle.std.proofs.lemmas.List.{get_or-set_same, length-replicate, length-set, map-append}
+use Rattle.std.proofs.lemmas.List.{get_or-replicate, length-replicate, map-append}
 use Rattle.std.proofs.lemmas.List.FromFn.{get_or-map-range_with_len, length-map-range_with_len}
 use Rattle.std.proofs.lemmas.List.Elements.{All-head, All-tail, filter-append}
-use Rattle.aeth_slots.specs.SlotSet.{greatest}
-use Rattle.aeth_slots.proofs.SlotSetLemmas.{greatest-push}
+use Rattle.std.specs.List.{range_with_len}
+use Rattle.aeth_slots.{specs.SlotSet.greatest, proofs.SlotSetLemmas.greatest-push}
 use Rattle.aeth_tables.specs.declared.buffering.Buffer.{Buffer}
 use Rattle.aeth_schedule.specs.Rooms.{landing_number, raised, raised_all}
 

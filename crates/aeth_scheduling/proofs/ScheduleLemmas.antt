@@ -1,55 +1,45 @@
 -- What is made from the lines of all use cases is what the switches of a run do.
 use Rattle.std.proofs.Common.{◌≡◌, ◌∙◌, ◌<◌, ◌≤◌, ◌*◌, ℕ, List, [], ◌∷◌, All, Contains, ap, arith}
-use Rattle.std.proofs.Common.{◌==◌, filter, inl, inr, length, map, not, refl, subst, sym}
-use Rattle.std.specs.Prelude.{flat_map}
-use Rattle.std.specs.List.{range_with_len}
-use Rattle.std.proofs.lemmas.Bool.{cases_Bool, eq-eqb}
+use Rattle.std.proofs.Common.{◌==◌, filter, inl, inr, length, map, not, refl, subst, sym, flat_map}
+use Rattle.std.proofs.Common.{eq-eqb}
+use Rattle.std.proofs.lemmas.Bool.{cases_Bool}
 use Rattle.std.proofs.lemmas.List.Elements.{All-head, All-nil, All-tail}
+use Rattle.std.proofs.lemmas.List.FromFn.{get_or-map-range_with_len, length-map-range_with_len}
+use Rattle.std.specs.List.{range_with_len}
 use Rattle.aeth_base.specs.Limits.{max_path_delay}
-use Rattle.aeth_base.specs.declared.ids.Side.{Side}
-use Rattle.aeth_base.specs.declared.ids.Side.TheVariants.{Back, Fwd}
+use Rattle.aeth_base.specs.declared.ids.Side.{Side, TheVariants.Back, TheVariants.Fwd}
 use Rattle.aeth_base.specs.declared.ids.UseId.{UseId}
 use Rattle.aeth_base.proofs.Members.{Contains-cases, Contains-here, Contains-nil, Contains-there}
 use Rattle.aeth_base.proofs.Members.{filter-Contains, flat_map-Contains}
 use Rattle.aeth_slots.specs.SlotSet.{greatest}
 use Rattle.aeth_chip.specs.Paths.{path_delay}
-use Rattle.aeth_ni.specs.Limits.{queues_of_interface}
+use Rattle.aeth_ni.specs.{Limits.queues_of_interface, declared.row.ChannelRow.ChannelRow}
 use Rattle.aeth_group.specs.Members.{GroupsData, group_at, groups_of, has_at, is_kept}
-use Rattle.aeth_ni.specs.declared.row.ChannelRow.{ChannelRow}
+use Rattle.aeth_group.proofs.{ListLemmas.any_from_passes, MemberLemmas.length-groups_of}
 use Rattle.aeth_trace.specs.Spans.{SpanData, span_of}
-use Rattle.aeth_trace.specs.declared.switches.SwitchRow.{SwitchRow}
-use Rattle.aeth_trace.specs.declared.words.WordRow.{WordRow}
+use Rattle.aeth_trace.specs.declared.{switches.SwitchRow.SwitchRow, words.WordRow.WordRow}
 use Rattle.aeth_report.specs.Channels.{channels_with}
 use Rattle.aeth_reconf.specs.Rows.{rows_that}
-use Rattle.aeth_tables.specs.Tables.{tables_of}
-use Rattle.aeth_tables.proofs.PromiseLaws.{are_printable, keep_promises}
+use Rattle.aeth_tables.specs.{Tables.tables_of, Granted.Granted, Granted.grant_on}
+use Rattle.aeth_tables.specs.{Granted.granted_in, Promises.HasNumbers, Switching.changing}
+use Rattle.aeth_tables.specs.{Switching.delays_in, Switching.lag_of, Switching.spans_of}
+use Rattle.aeth_tables.specs.{TableText.IsRowOf}
+use Rattle.aeth_tables.proofs.{PromiseLaws.are_printable, PromiseLaws.keep_promises}
+use Rattle.aeth_tables.proofs.{ListLaws.all_from_places, ListLaws.all_has, ListLaws.has_place}
+use Rattle.aeth_tables.proofs.{ShapeRanges.shape_in_range, UseLaws.is_reserved}
 use Rattle.aeth_accepted.specs.Inputs.{AreAccepted, Inputs, design_of, row_at, run_of}
 use Rattle.aeth_accepted.proofs.TableFlows.{rows-of_tables}
 use Rattle.aeth_scheduling.specs.Entered.{entered_lines, is_entered, lines_if_entered}
-use Rattle.aeth_schedule.specs.Lines.{all_lines, lines_at, lines_of}
-use Rattle.aeth_group.proofs.ListLemmas.{any_from_passes}
-use Rattle.aeth_group.proofs.MemberLemmas.{length-groups_of}
-use Rattle.aeth_tables.specs.Granted.{Granted, grant_on, granted_in}
-use Rattle.aeth_tables.specs.Promises.{HasNumbers}
-use Rattle.aeth_tables.specs.Switching.{changing, delays_in, lag_of, spans_of}
-use Rattle.aeth_tables.specs.TableText.{IsRowOf}
-use Rattle.aeth_tables.proofs.ListLaws.{all_from_places, all_has, has_place}
-use Rattle.aeth_tables.proofs.ShapeRanges.{shape_in_range}
-use Rattle.aeth_tables.proofs.UseLaws.{is_reserved}
-use Rattle.aeth_schedule.specs.Rooms.{queue_number}
-use Rattle.aeth_schedule.specs.declared.lines.Line.{Line}
-use Rattle.std.proofs.lemmas.List.FromFn.{get_or-map-range_with_len, length-map-range_with_len}
 use Rattle.aeth_scheduling.specs.Made.{AreRows, IsSetting, IsTask, events_over, loaded_over}
-use Rattle.aeth_schedule.specs.Goings.{goings_behind, goings_from}
 use Rattle.aeth_scheduling.specs.Made.{timed_over}
 use Rattle.aeth_scheduling.specs.Tasks.{AreSpansFor}
-use Rattle.aeth_schedule.specs.Windows.{windows_over}
-use Rattle.aeth_schedule.specs.Values.{values_of}
-use Rattle.aeth_schedule.specs.Switching.{events_by, loaded_of, switches_from, timed_of}
-use Rattle.aeth_schedule.specs.Timed.{within}
-use Rattle.aeth_schedule.proofs.LineLemmas.{line-at, lines-all}
-use Rattle.aeth_schedule.proofs.SwitchRows.{rows-known}
 use Rattle.aeth_scheduling.proofs.LineLemmas.{changed-of, rows-with}
+use Rattle.aeth_schedule.specs.{Lines.all_lines, Lines.lines_at, Lines.lines_of, Rooms.queue_number}
+use Rattle.aeth_schedule.specs.{declared.lines.Line.Line, Goings.goings_behind, Goings.goings_from}
+use Rattle.aeth_schedule.specs.{Windows.windows_over, Values.values_of, Switching.events_by}
+use Rattle.aeth_schedule.specs.{Switching.loaded_of, Switching.switches_from, Switching.timed_of}
+use Rattle.aeth_schedule.specs.{Timed.within}
+use Rattle.aeth_schedule.proofs.{LineLemmas.line-at, LineLemmas.lines-all, SwitchRows.rows-known}
 
 -- What is made of a list of rows is the same with other spans, where these are the same as soon as a
 -- switch follows the first row.

@@ -1,17 +1,13 @@
 -- Events below the end of a run.
 use Rattle.std.proofs.Common.{◌≡◌, ◌≤◌, ◌<◌, ◌+◌, ◌++◌, ◌∙◌, ℕ, List, [], ◌∷◌, append_assoc, arith}
-use Rattle.std.proofs.Common.{map, refl}
-use Rattle.std.specs.Prelude.{nat_lt}
-use Rattle.std.proofs.lemmas.Bool.Decides.{nat_tests}
-use Rattle.std.proofs.lemmas.List.Elements.{filter-append}
+use Rattle.std.proofs.Common.{map, refl, nat_lt}
+use Rattle.std.proofs.lemmas.{Bool.Decides.nat_tests, List.Elements.filter-append}
 use Rattle.aeth_ni.specs.Program.{program_of}
-use Rattle.aeth_ni.specs.declared.row.ChannelRow.{ChannelRow}
-use Rattle.aeth_ni.specs.declared.write.Write.{Write}
+use Rattle.aeth_ni.specs.declared.{row.ChannelRow.ChannelRow, write.Write.Write}
 use Rattle.aeth_report.specs.declared.session.Close.{Close}
 use Rattle.aeth_components.specs.declared.event.Event.TheVariants.{Finish, Halt}
-use Rattle.aeth_schedule.specs.Lines.{end_of}
-use Rattle.aeth_schedule.specs.Timed.{events_with, finishes_at, halts_at, within, writes_from}
-use Rattle.aeth_schedule.specs.declared.timed.Timed.{Timed}
+use Rattle.aeth_schedule.specs.{Lines.end_of, Timed.events_with, Timed.finishes_at, Timed.halts_at}
+use Rattle.aeth_schedule.specs.{Timed.within, Timed.writes_from, declared.timed.Timed.Timed}
 
 -- Events of a cycle past the end are none of the run's.
 pub within-late : {X : Type 0} (f : X → Timed) (end cycle : ℕ) (xs : List X)

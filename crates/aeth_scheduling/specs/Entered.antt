@@ -4,14 +4,13 @@
 --   AreUsesOf      the use cases that rows enter
 --   lines_if_entered, entered_lines      the channels of a use case that is entered, and those of all
 -- This project's own.
-use Rattle.std.specs.Prelude.{ℕ, ◌≢◌, ◌==◌, All, Bool, Contains, IsTrue, List, [], length, map}
-use Rattle.std.specs.Prelude.{if◌then◌else◌}
+use Rattle.std.proofs.Common.{ℕ, ◌≢◌, ◌==◌, All, Bool, Contains, IsTrue, List, [], length, map}
+use Rattle.std.proofs.Common.{if◌then◌else◌}
 use Rattle.std.specs.List.{AllPairs, list_any, range_with_len}
 use Rattle.aeth_base.specs.declared.ids.UseId.{UseId}
 use Rattle.aeth_trace.specs.declared.switches.SwitchRow.{SwitchRow}
 use Rattle.aeth_accepted.specs.Inputs.{Inputs}
-use Rattle.aeth_schedule.specs.Lines.{lines_of}
-use Rattle.aeth_schedule.specs.declared.lines.Line.{Line}
+use Rattle.aeth_schedule.specs.{Lines.lines_of, declared.lines.Line.Line}
 
 -- Whether one of the rows enters a use case.
 abbrev pub is_entered : List SwitchRow → ℕ → Bool

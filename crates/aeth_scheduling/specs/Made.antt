@@ -5,26 +5,20 @@
 --   events_over, timed_over, loaded_over      the events of a switch, and of all; the first writes
 --   IsTask      what sessions are made from
 -- This project's own.
-use Rattle.std.specs.Prelude.{◌≡◌, ◌≤◌, ◌<◌, ℕ, All, List, [], ◌∷◌, flat_map, length, map}
-use Rattle.std.specs.List.{range_with_len}
-use Rattle.std.specs.List.Sorted.{IsNonDecreasingBy}
+use Rattle.std.proofs.Common.{◌≡◌, ◌≤◌, ◌<◌, ℕ, All, List, [], ◌∷◌, flat_map, length, map}
+use Rattle.std.specs.List.{range_with_len, Sorted.IsNonDecreasingBy}
 use Rattle.aeth_base.specs.Limits.{max_cycles, max_path_delay}
 use Rattle.aeth_app.specs.Limits.{max_connections}
 use Rattle.aeth_group.specs.Members.{GroupsData}
-use Rattle.aeth_ni.specs.Program.{program_of}
-use Rattle.aeth_ni.specs.declared.row.ChannelRow.{ChannelRow}
-use Rattle.aeth_trace.specs.Limits.{max_rows}
-use Rattle.aeth_trace.specs.Spans.{SpanData, span_of}
-use Rattle.aeth_trace.specs.declared.switches.SwitchRow.{SwitchRow}
-use Rattle.aeth_trace.specs.declared.words.WordRow.{WordRow}
+use Rattle.aeth_ni.specs.{Program.program_of, declared.row.ChannelRow.ChannelRow}
+use Rattle.aeth_trace.specs.{Limits.max_rows, Spans.SpanData, Spans.span_of}
+use Rattle.aeth_trace.specs.{declared.switches.SwitchRow.SwitchRow, declared.words.WordRow.WordRow}
 use Rattle.aeth_report.specs.Sessions.{Switch, close_by}
 use Rattle.aeth_components.specs.declared.event.Event.{Event}
-use Rattle.aeth_schedule.specs.Lines.{changed_lines, lines_at}
-use Rattle.aeth_schedule.specs.Switching.{changes, later_switches}
-use Rattle.aeth_schedule.specs.Timed.{events_with, within}
-use Rattle.aeth_schedule.specs.Values.{values_of}
-use Rattle.aeth_schedule.specs.declared.lines.Line.{Line}
-use Rattle.aeth_schedule.specs.declared.timed.Timed.{Timed}
+use Rattle.aeth_schedule.specs.{Lines.changed_lines, Lines.lines_at, Switching.changes}
+use Rattle.aeth_schedule.specs.{Switching.later_switches, Timed.events_with, Timed.within}
+use Rattle.aeth_schedule.specs.{Values.values_of, declared.lines.Line.Line}
+use Rattle.aeth_schedule.specs.{declared.timed.Timed.Timed}
 
 -- The rows of those of a use case which a switch doesn't keep.
 abbrev pub changed_rows : GroupsData → ℕ → ℕ → List Line → List ChannelRow

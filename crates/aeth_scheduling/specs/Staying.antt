@@ -3,7 +3,7 @@
 --   AreEntered      rows that enter use cases of a list
 --   IsKeptThroughout      a connection is kept between any two use cases of a list
 -- Channels that go on through a switch: this project's own.
-use Rattle.std.specs.Prelude.{◌<◌, ℕ, All, Contains, IsTrue, List}
+use Rattle.std.proofs.Common.{◌<◌, ℕ, All, Contains, IsTrue, List}
 use Rattle.aeth_base.specs.declared.ids.UseId.{UseId}
 use Rattle.aeth_group.specs.Members.{GroupsData, is_kept}
 use Rattle.aeth_trace.specs.declared.switches.SwitchRow.{SwitchRow}

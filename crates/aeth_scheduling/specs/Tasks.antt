@@ -3,13 +3,12 @@
 --   AreSpansFor      spans that tell how long the switches of inputs take
 --   IsTaskOf      the task of inputs
 -- This project's own.
-use Rattle.std.specs.Prelude.{◌≡◌, ◌≤◌, ◌<◌, ℕ, length}
+use Rattle.std.proofs.Common.{◌≡◌, ◌≤◌, ◌<◌, ℕ, length}
 use Rattle.aeth_base.specs.Limits.{max_path_delay}
 use Rattle.aeth_group.specs.Members.{groups_of}
 use Rattle.aeth_trace.specs.Spans.{SpanData, span_of}
 use Rattle.aeth_accepted.specs.Inputs.{Inputs, run_of}
-use Rattle.aeth_scheduling.specs.Entered.{entered_lines}
-use Rattle.aeth_scheduling.specs.declared.task.Task.{Task}
+use Rattle.aeth_scheduling.specs.{Entered.entered_lines, declared.task.Task.Task}
 
 -- Spans between the use cases of inputs, with short lags, which are those of the plan where a switch
 -- follows the first row.

@@ -1,21 +1,17 @@
 -- Fixed cores are seated one after the other: where each sits then.
 use Rattle.std.proofs.Common.{◌≡◌, ◌≢◌, ◌<◌, ◌≤◌, ◌∙◌, ◌+◌, ◌&&◌, ◌||◌, ℕ, zero, suc, Bool, true}
 use Rattle.std.proofs.Common.{false, List, [], ◌∷◌, length, get_or, set, Some, None, Option, refl}
-use Rattle.std.proofs.Common.{sym, ap, inl, inr, arith, not, map, cond, eqb, ltb, slice_get}
-use Rattle.std.proofs.Common.{take}
-use Rattle.std.specs.List.{position_or_len, range_with_len, count_by}
-use Rattle.std.specs.Prelude.{unwrap_or}
+use Rattle.std.proofs.Common.{sym, ap, inl, inr, arith, not, map, cond, eqb, ltb, slice_get, take}
+use Rattle.std.proofs.Common.{unwrap_or, eq-eqb, ne_eqb, lt-ltb, le-ltb, length-set}
 use Rattle.std.proofs.lemmas.Bool.{cases_eq, cases_lt}
-use Rattle.std.proofs.lemmas.Bool.{eq-eqb, ne_eqb, lt-ltb, le-ltb}
-use Rattle.std.proofs.lemmas.List.{length-set}
 use Rattle.std.proofs.lemmas.List.FromFn.{get_or-map-range_with_len, length-map-range_with_len}
 use Rattle.std.proofs.lemmas.List.Sums.{sum_by-cons, position_or_len_is}
+use Rattle.std.specs.List.{position_or_len, range_with_len, count_by}
 use Rattle.aeth_base.specs.declared.ids.NiId.{NiId}
-use Rattle.aeth_app.specs.App.{is_ni}
-use Rattle.aeth_app.specs.Limits.{seats_per_ni}
+use Rattle.aeth_app.specs.{App.is_ni, Limits.seats_per_ni}
 use Rattle.aeth_seats.specs.First.{fixed_count, seated_from}
-use Rattle.aeth_seats.specs.Places.{Place, is_taken, lowest_free, placed, placed_on, seat_of, sits_on}
-use Rattle.aeth_seats.specs.Places.{taken_seats}
+use Rattle.aeth_seats.specs.Places.{Place, is_taken, lowest_free, placed, placed_on, seat_of}
+use Rattle.aeth_seats.specs.Places.{sits_on, taken_seats}
 use Rattle.aeth_seats.proofs.TakenLemmas.{is_taken-more, seat_of-set_other, seat_of-set_same}
 use Rattle.aeth_seats.proofs.SeatingLemmas.{seated_from-earlier}
 

@@ -1,33 +1,22 @@
 -- The first seats: each core by itself, and what holds of all.
-use Rattle.std.proofs.Common.{◌≡◌, ◌<◌, ◌≤◌, ◌∙◌, ◌+◌, ℕ}
-use Rattle.std.proofs.Common.{List, [], ◌∷◌, length, Some, None, Option, refl}
-use Rattle.std.proofs.Common.{sym, ap, arith, map, cond, slice_get, subst}
-use Rattle.std.proofs.Common.{take, replicate}
+use Rattle.std.proofs.Common.{◌≡◌, ◌<◌, ◌≤◌, ◌∙◌, ◌+◌, ℕ, List, [], ◌∷◌, length, Some, None, Option}
+use Rattle.std.proofs.Common.{refl, sym, ap, arith, map, cond, slice_get, subst, take, replicate}
+use Rattle.std.proofs.Common.{IfSome, IsSomeAnd, unwrap_or, le-ltb, option_map}
+use Rattle.std.proofs.lemmas.{Bool.false≢true, List.length-map, List.length-replicate}
+use Rattle.std.proofs.lemmas.{List.Sums.sum_by-cons, Option.slice_get_within, Option.slice_get-map}
+use Rattle.std.proofs.lemmas.{Option.get_or_from_slice_get, Option.same_Some}
 use Rattle.std.specs.List.{count_by}
-use Rattle.std.specs.Prelude.{IfSome, IsSomeAnd, unwrap_or}
-use Rattle.std.proofs.lemmas.Bool.{false≢true}
-use Rattle.std.proofs.lemmas.Bool.{le-ltb}
-use Rattle.std.proofs.lemmas.List.{length-map}
-use Rattle.std.proofs.lemmas.List.Sums.{sum_by-cons}
-use Rattle.std.proofs.lemmas.Option.{slice_get_within}
 use Rattle.aeth_base.specs.declared.ids.NiId.{NiId}
-use Rattle.aeth_app.specs.App.{is_ni}
-use Rattle.aeth_app.specs.Limits.{seats_per_ni}
-use Rattle.aeth_seats.specs.First.{fixed_count, seated_from}
+use Rattle.aeth_app.specs.{App.is_ni, App.AppData, App.IsApp, App.IsAppOf, App.is_fixed_to}
+use Rattle.aeth_app.specs.{Limits.seats_per_ni, Limits.max_cores, declared.connection.Core.Core}
+use Rattle.aeth_seats.specs.First.{fixed_count, seated_from, AreKnown, first_places, first_seat}
+use Rattle.aeth_seats.specs.First.{first_seats, fixed_of, seat_behind}
 use Rattle.aeth_seats.specs.Places.{Place, seat_of, sits_on}
 use Rattle.aeth_seats.specs.Seats.{IsSeats}
-use Rattle.std.proofs.lemmas.List.{length-replicate}
-use Rattle.std.proofs.lemmas.Option.{slice_get-map, get_or_from_slice_get, same_Some}
-use Rattle.std.specs.Prelude.{option_map}
-use Rattle.aeth_chip.specs.Limits.{max_nis}
-use Rattle.aeth_chip.specs.Chip.{ChipData, IsChip}
-use Rattle.aeth_app.specs.Limits.{max_cores}
-use Rattle.aeth_app.specs.App.{AppData, IsApp, IsAppOf, is_fixed_to}
-use Rattle.aeth_app.specs.declared.connection.Core.{Core}
-use Rattle.aeth_seats.specs.First.{AreKnown, first_places, first_seat, first_seats, fixed_of, seat_behind}
 use Rattle.aeth_seats.proofs.TakenLemmas.{length-nothing, none-taken, none-there, nothing}
 use Rattle.aeth_seats.proofs.FillLemmas.{IsFilled, seat_by, seat_of-filled}
 use Rattle.aeth_seats.proofs.SeatingLemmas.{seats-seated_from}
+use Rattle.aeth_chip.specs.{Limits.max_nis, Chip.ChipData, Chip.IsChip}
 
 filled-none : (fixed : List (Option NiId))
     → ((ni : ℕ) → fixed_count fixed ni ≤ seats_per_ni)

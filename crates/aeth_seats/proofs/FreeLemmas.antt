@@ -1,10 +1,10 @@
 -- How many seats of an interface are free, before and after a core takes one.
 use Rattle.std.proofs.Common.{◌≡◌, ◌≢◌, ◌<◌, ◌≤◌, ◌∙◌, ◌+◌, ◌||◌, ℕ, zero, suc, Bool, true, false}
-use Rattle.std.proofs.Common.{List, [], ◌∷◌, length, map, set, Some, None, Option, not, refl}
-use Rattle.std.proofs.Common.{sym, ap, inl, inr, arith}
+use Rattle.std.proofs.Common.{List, [], ◌∷◌, length, map, set, Some, None, Option, not, refl, sym}
+use Rattle.std.proofs.Common.{ap, inl, inr, arith}
+use Rattle.std.proofs.lemmas.Bool.{cases_Bool, cases_eq, not_from_false, not_from_true, or_left}
+use Rattle.std.proofs.lemmas.Bool.{or_right}
 use Rattle.std.specs.List.{count_by, list_any, range_with_len}
-use Rattle.std.proofs.lemmas.Bool.{cases_Bool, cases_eq, not_from_false, not_from_true}
-use Rattle.std.proofs.lemmas.Bool.{or_left, or_right}
 use Rattle.aeth_base.specs.declared.ids.NiId.{NiId}
 use Rattle.aeth_base.proofs.Lists.{count_by-any, count_by-no, count_by-yes}
 use Rattle.aeth_app.specs.Limits.{seats_per_ni}

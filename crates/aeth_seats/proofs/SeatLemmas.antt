@@ -1,29 +1,21 @@
 -- What holds of all seats, with a core more and with one less.
-use Rattle.std.proofs.Common.{◌≡◌, ◌≢◌, ◌<◌, ◌∙◌, ◌+◌, ◌||◌, ℕ, zero, suc, Bool, true}
-use Rattle.std.proofs.Common.{false, List, [], ◌∷◌, length, set, Some, None, Option, refl}
-use Rattle.std.proofs.Common.{sym, ap, inl, inr, arith, not, map, cond, slice_get, subst}
-use Rattle.std.proofs.Common.{filter, ◌++◌}
-use Rattle.std.proofs.lemmas.List.{append-nil, map-append}
-use Rattle.std.proofs.lemmas.List.Elements.{filter-append}
-use Rattle.aeth_base.proofs.Ranges.{range_with_len-more}
-use Rattle.aeth_seats.specs.Seats.{interfaces}
-use Rattle.std.specs.List.{list_any, position_or_len, range_with_len}
-use Rattle.std.specs.Prelude.{IfSome, IsSomeAnd}
+use Rattle.std.proofs.Common.{◌≡◌, ◌≢◌, ◌<◌, ◌∙◌, ◌+◌, ◌||◌, ℕ, zero, suc, Bool, true, false, List}
+use Rattle.std.proofs.Common.{[], ◌∷◌, length, set, Some, None, Option, refl, sym, ap, inl, inr}
+use Rattle.std.proofs.Common.{arith, not, map, cond, slice_get, subst, filter, ◌++◌, append-nil}
+use Rattle.std.proofs.Common.{IfSome, IsSomeAnd, lt-ltb, length-set}
+use Rattle.std.proofs.lemmas.List.{map-append, Elements.filter-append}
+use Rattle.std.proofs.lemmas.List.{FromFn.get_or-map-range_with_len}
+use Rattle.std.proofs.lemmas.List.{FromFn.length-map-range_with_len, Quantifiers.position-Some}
 use Rattle.std.proofs.lemmas.Bool.{cases_Bool, cases_eq, both_ways, not-true, false≢true}
-use Rattle.std.proofs.lemmas.Bool.{lt-ltb}
-use Rattle.std.proofs.lemmas.List.{length-set}
-use Rattle.std.proofs.lemmas.List.FromFn.{get_or-map-range_with_len, length-map-range_with_len}
-use Rattle.std.proofs.lemmas.List.Quantifiers.{position-Some}
 use Rattle.std.proofs.lemmas.Option.{slice_get_within}
-use Rattle.aeth_base.specs.declared.ids.NiId.{NiId}
-use Rattle.aeth_app.specs.Limits.{seats_per_ni}
-use Rattle.aeth_seats.specs.Places.{Place, has_free, is_taken, lowest_free, placed, placed_on, seat_of}
-use Rattle.aeth_seats.specs.Places.{sits_on}
-use Rattle.aeth_seats.specs.Places.{taken_seats}
-use Rattle.aeth_seats.specs.Seats.{IsSeats, SeatsData, with_core, without_core}
-use Rattle.aeth_seats.proofs.TakenLemmas.{taken_back-none}
-use Rattle.aeth_seats.proofs.TakenLemmas.{seat_of-set_other, seat_of-set_same}
+use Rattle.std.specs.List.{list_any, position_or_len, range_with_len}
+use Rattle.aeth_base.{proofs.Ranges.range_with_len-more, specs.declared.ids.NiId.NiId}
+use Rattle.aeth_seats.specs.Seats.{interfaces, IsSeats, SeatsData, with_core, without_core}
+use Rattle.aeth_seats.specs.Places.{Place, has_free, is_taken, lowest_free, placed, placed_on}
+use Rattle.aeth_seats.specs.Places.{seat_of, sits_on, taken_seats}
+use Rattle.aeth_seats.proofs.TakenLemmas.{taken_back-none, seat_of-set_other, seat_of-set_same}
 use Rattle.aeth_seats.proofs.TakenLemmas.{sits_on-parts, taken_by}
+use Rattle.aeth_app.specs.Limits.{seats_per_ni}
 
 -- The lowest free seat is a seat that is free.
 pub lowest-free : (places : List (Option Place)) (ni seat : ℕ)

@@ -1,20 +1,14 @@
 -- Fixed cores are seated one after the other: what stays, and what holds then.
-use Rattle.std.proofs.Common.{◌≡◌, ◌≢◌, ◌<◌, ◌≤◌, ◌∙◌, ◌+◌, ℕ, suc}
-use Rattle.std.proofs.Common.{List, [], ◌∷◌, length, Some, None, Option, refl}
-use Rattle.std.proofs.Common.{sym, ap, arith, slice_get, subst}
-use Rattle.std.proofs.Common.{replicate}
-use Rattle.std.proofs.lemmas.List.{length-set}
-use Rattle.aeth_base.specs.declared.ids.NiId.{NiId}
-use Rattle.std.proofs.Common.{drop}
-use Rattle.aeth_base.proofs.Lists.{drop-slice_get}
-use Rattle.aeth_seats.proofs.TakenLemmas.{length-nothing, none-there}
-use Rattle.aeth_seats.specs.Table.{TableData}
+use Rattle.std.proofs.Common.{◌≡◌, ◌≢◌, ◌<◌, ◌≤◌, ◌∙◌, ◌+◌, ℕ, suc, List, [], ◌∷◌, length, Some}
+use Rattle.std.proofs.Common.{None, Option, refl, sym, ap, arith, slice_get, subst, replicate}
+use Rattle.std.proofs.Common.{length-set, drop}
 use Rattle.std.proofs.lemmas.List.{drop_all}
-use Rattle.aeth_seats.specs.First.{first_places, seated, seated_from}
-use Rattle.aeth_seats.specs.Places.{Place, lowest_free, placed, placed_on, seat_of}
-use Rattle.aeth_seats.specs.Seats.{IsSeats, SeatsData, with_core}
-use Rattle.aeth_seats.proofs.TakenLemmas.{seat_of-set_other}
+use Rattle.aeth_base.{specs.declared.ids.NiId.NiId, proofs.Lists.drop-slice_get}
+use Rattle.aeth_seats.proofs.TakenLemmas.{length-nothing, none-there, seat_of-set_other}
 use Rattle.aeth_seats.proofs.SeatLemmas.{seats-with_core}
+use Rattle.aeth_seats.specs.{Table.TableData, First.first_places, First.seated, First.seated_from}
+use Rattle.aeth_seats.specs.{Places.Place, Places.lowest_free, Places.placed, Places.placed_on}
+use Rattle.aeth_seats.specs.{Places.seat_of, Seats.IsSeats, Seats.SeatsData, Seats.with_core}
 
 -- A core that is placed changes no other core's seat.
 pub placed_on-other : (places : List (Option Place)) (core : ℕ) (ni : NiId) (found : Option ℕ)

@@ -1,26 +1,20 @@
 -- The table of taken seats, after a core took a seat, and after it gave it back.
-use Rattle.std.proofs.Common.{◌≡◌, ◌≢◌, ◌<◌, ◌∙◌, ◌+◌, ◌*◌, ◌||◌, ℕ, Bool}
-use Rattle.std.proofs.Common.{true, false, List, length, get_or, set, Some, None, Option}
-use Rattle.std.proofs.Common.{refl, sym, ap, inl, inr, arith, map, slice_get}
-use Rattle.std.proofs.Common.{take, drop}
-use Rattle.std.specs.List.{range_with_len}
+use Rattle.std.proofs.Common.{◌≡◌, ◌≢◌, ◌<◌, ◌∙◌, ◌+◌, ◌*◌, ◌||◌, ℕ, Bool, true, false, List}
+use Rattle.std.proofs.Common.{length, get_or, set, Some, None, Option, refl, sym, ap, inl, inr}
+use Rattle.std.proofs.Common.{arith, map, slice_get, take, drop, length-set, length-take}
+use Rattle.std.proofs.Common.{length-drop, get_or-take, get_or-drop, replicate}
 use Rattle.std.proofs.lemmas.Bool.{cases_eq}
-use Rattle.std.proofs.lemmas.List.{length-set}
-use Rattle.std.proofs.lemmas.List.{same_lists, length-take, length-drop, get_or-take}
-use Rattle.std.proofs.lemmas.List.{get_or-drop}
+use Rattle.std.proofs.lemmas.List.{same_lists, length-replicate, get_or-replicate}
 use Rattle.std.proofs.lemmas.List.FromFn.{get_or-map-range_with_len, length-map-range_with_len}
-use Rattle.std.proofs.lemmas.Option.{get_or_from_slice_get}
+use Rattle.std.proofs.lemmas.Option.{get_or_from_slice_get, slice_get-get_or}
+use Rattle.std.specs.List.{range_with_len}
 use Rattle.aeth_base.specs.declared.ids.NiId.{NiId}
 use Rattle.aeth_base.proofs.Lists.{slice_get-slice_set_same, slice_get-slice_set_other}
 use Rattle.aeth_app.specs.Limits.{seats_per_ni}
 use Rattle.aeth_seats.specs.Places.{Place, is_taken, seat_of, sits_on, taken_seats}
 use Rattle.aeth_seats.specs.Table.{AreFew, IsTakenTable, TableData, entry_of}
-use Rattle.std.proofs.Common.{replicate}
-use Rattle.std.proofs.lemmas.List.{length-replicate, get_or-replicate}
-use Rattle.std.proofs.lemmas.Option.{slice_get-get_or}
-use Rattle.aeth_seats.proofs.TakenLemmas.{none-taken}
-use Rattle.aeth_seats.proofs.TakenLemmas.{is_taken-cleared, is_taken-more, is_taken-same}
-use Rattle.aeth_seats.proofs.TakenLemmas.{sits_on-away, sits_on-own}
+use Rattle.aeth_seats.proofs.TakenLemmas.{none-taken, is_taken-cleared, is_taken-more}
+use Rattle.aeth_seats.proofs.TakenLemmas.{is_taken-same, sits_on-away, sits_on-own}
 
 -- Two seats that are at one entry are one seat.
 pub same_entry : (ni seat ni' seat' : ℕ) → seat < seats_per_ni → seat' < seats_per_ni

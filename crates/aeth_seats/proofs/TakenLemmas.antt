@@ -1,17 +1,13 @@
 -- Which seats are taken after a core took one, and after it gave it back.
-use Rattle.std.proofs.Common.{◌≡◌, ◌≢◌, ◌<◌, ◌∙◌, ◌||◌, ℕ, zero, suc, Bool}
-use Rattle.std.proofs.Common.{true, false, List, [], ◌∷◌, length, get_or, set, Some, None, Option}
-use Rattle.std.proofs.Common.{refl, sym, ap, inl, inr, arith, slice_get}
-use Rattle.std.specs.List.{list_any}
-use Rattle.std.proofs.lemmas.Bool.{cases_Bool, cases_eq, eqb-true, and_parts, both_ways, eq-eqb}
-use Rattle.std.proofs.lemmas.Bool.{and_from, cases_lt}
-use Rattle.std.proofs.Common.{replicate}
-use Rattle.std.proofs.lemmas.List.{set-get_or, get_or-replicate, length-replicate}
-use Rattle.std.proofs.lemmas.List.{get_or-set_same, get_or-set_other, length-set, get_or_default}
-use Rattle.std.proofs.lemmas.List.{get_or_past}
-use Rattle.std.proofs.lemmas.List.Folds.{list_any_none, list_any_at}
-use Rattle.std.specs.Prelude.{unwrap_or}
+use Rattle.std.proofs.Common.{◌≡◌, ◌≢◌, ◌<◌, ◌∙◌, ◌||◌, ℕ, zero, suc, Bool, true, false, List, []}
+use Rattle.std.proofs.Common.{◌∷◌, length, get_or, set, Some, None, Option, refl, sym, ap, inl, inr}
+use Rattle.std.proofs.Common.{arith, slice_get, eqb-true, eq-eqb, replicate, get_or-set_same}
+use Rattle.std.proofs.Common.{get_or-set_other, length-set, unwrap_or}
+use Rattle.std.proofs.lemmas.Bool.{cases_Bool, cases_eq, and_parts, both_ways, and_from, cases_lt}
+use Rattle.std.proofs.lemmas.List.{set-get_or, get_or-replicate, length-replicate, get_or_default}
+use Rattle.std.proofs.lemmas.List.{get_or_past, Folds.list_any_none, Folds.list_any_at}
 use Rattle.std.proofs.lemmas.Option.{unwrap_or-slice_get}
+use Rattle.std.specs.List.{list_any}
 use Rattle.aeth_base.specs.declared.ids.NiId.{NiId}
 use Rattle.aeth_seats.specs.Places.{Place, is_taken, seat_of, sits_on}
 

@@ -4,13 +4,12 @@
 --   fixed_count, first_seat      the same of one core by itself
 --   AreKnown      cores are fixed to interfaces of the chip
 -- This project's own.
-use Rattle.std.specs.Prelude.{◌≡◌, ◌<◌, ℕ, ◌+◌, List, [], ◌∷◌, length, map, take, replicate, count_by}
-use Rattle.std.specs.Prelude.{slice_get, Option, Some, None, unwrap_or}
+use Rattle.std.proofs.Common.{◌≡◌, ◌<◌, ℕ, ◌+◌, List, [], ◌∷◌, length, map, take, replicate}
+use Rattle.std.proofs.Common.{count_by, slice_get, Option, Some, None, unwrap_or}
 use Rattle.aeth_base.specs.declared.ids.NiId.{NiId}
 use Rattle.aeth_chip.specs.Chip.{ChipData}
 use Rattle.aeth_app.specs.App.{AppData, is_ni}
-use Rattle.aeth_seats.specs.Places.{Place, placed}
-use Rattle.aeth_seats.specs.Seats.{SeatsData}
+use Rattle.aeth_seats.specs.{Places.Place, Places.placed, Seats.SeatsData}
 
 -- A core takes the lowest free seat of the interface to which it is fixed, if it is.
 abbrev pub seated : List (Option Place) → ℕ → Option NiId → List (Option Place)

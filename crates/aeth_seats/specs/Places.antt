@@ -6,8 +6,8 @@
 --   placed, taken_back      a core takes the lowest free seat of an interface, or gives its seat back
 -- Cores are placed as the consequence of the paths of their channels: after UMARS (2005). Seats:
 -- this project's own.
-use Rattle.std.specs.Prelude.{ℕ, ◌==◌, ◌&&◌, not, Bool, false, List, map, position, count_by}
-use Rattle.std.specs.Prelude.{slice_get, slice_set, Option, Some, None, unwrap_or}
+use Rattle.std.proofs.Common.{ℕ, ◌==◌, ◌&&◌, not, Bool, false, List, map, position, count_by}
+use Rattle.std.proofs.Common.{slice_get, slice_set, Option, Some, None, unwrap_or}
 use Rattle.std.specs.List.{list_any, range_with_len}
 use Rattle.aeth_base.specs.declared.ids.NiId.{NiId}
 use Rattle.aeth_app.specs.Limits.{seats_per_ni}

@@ -7,14 +7,15 @@
 --   IsSeats      what holds of all seats
 -- Cores are placed as the consequence of the paths of their channels: after UMARS (2005). Seats and
 -- queue numbers: this project's own.
-use Rattle.std.specs.Prelude.{◌≡◌, ◌<◌, ◌≤◌, ℕ, ◌+◌, ◌*◌, ◌==◌, ◌&&◌, Bool, List, [], ◌∷◌, length, map}
-use Rattle.std.specs.Prelude.{filter, slice_get, Option, Some, None, IfSome, IsSomeAnd}
-use Rattle.std.specs.Prelude.{IsTrue, if◌then◌else◌, is_none}
+use Rattle.std.proofs.Common.{◌≡◌, ◌<◌, ◌≤◌, ℕ, ◌+◌, ◌*◌, ◌==◌, ◌&&◌, Bool, List, [], ◌∷◌, length}
+use Rattle.std.proofs.Common.{map, filter, slice_get, Option, Some, None, IfSome, IsSomeAnd, IsTrue}
+use Rattle.std.proofs.Common.{if◌then◌else◌, is_none}
 use Rattle.std.specs.List.{range_with_len}
 use Rattle.aeth_base.specs.declared.ids.NiId.{NiId}
 use Rattle.aeth_chip.specs.Limits.{max_nis}
 use Rattle.aeth_app.specs.Limits.{max_core_connections, max_cores, seats_per_ni}
-use Rattle.aeth_seats.specs.Places.{Place, free_count, has_free, placed, seat_of, sits_on, taken_back}
+use Rattle.aeth_seats.specs.Places.{Place, free_count, has_free, placed, seat_of, sits_on}
+use Rattle.aeth_seats.specs.Places.{taken_back}
 
 -- Seats: the number of network interfaces; for each core in file order the interface to which it is
 -- fixed, if it is; and for each core its seat, if it has one.

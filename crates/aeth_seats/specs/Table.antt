@@ -1,7 +1,7 @@
 -- The table of taken seats behind seats: the seats of each interface stand together.
 -- This project's own.
-use Rattle.std.specs.Prelude.{◌≡◌, ◌≢◌, ◌<◌, ◌≤◌, ℕ, ◌+◌, ◌*◌, Bool, false, List, Option, Some}
-use Rattle.std.specs.Prelude.{length, slice_get}
+use Rattle.std.proofs.Common.{◌≡◌, ◌≢◌, ◌<◌, ◌≤◌, ℕ, ◌+◌, ◌*◌, Bool, false, List, Option, Some}
+use Rattle.std.proofs.Common.{length, slice_get}
 use Rattle.aeth_chip.specs.Limits.{max_nis}
 use Rattle.aeth_app.specs.Limits.{max_cores, seats_per_ni}
 use Rattle.aeth_seats.specs.Places.{Place, is_taken, seat_of, sits_on}

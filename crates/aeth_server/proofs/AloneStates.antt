@@ -1,12 +1,10 @@
 -- What `Alone` remembers of a private server is its state from cycle to cycle.
 use Rattle.std.proofs.Common.{ℕ, ◌+◌, ◌-◌, ◌<◌, ◌≡◌, ◌∙◌, zero, suc, Bool, List, ◌∷◌, get_or, take}
-use Rattle.std.proofs.Common.{sym, refl, ap, arith}
-use Rattle.std.specs.Prelude.{replicate, slice_index}
-use Rattle.std.proofs.lemmas.List.{get_or-take}
+use Rattle.std.proofs.Common.{sym, refl, ap, arith, replicate, slice_index, get_or-take}
 use Rattle.aeth_base.specs.Limits.{max_path_delay}
 use Rattle.aeth_server.specs.Shape.{Shape}
-use Rattle.aeth_server.specs.PrivateServer.{PrivateServer, Counts, arrived, counts_after}
-use Rattle.aeth_server.specs.PrivateServer.{sent, landed, taken, credited, returned}
+use Rattle.aeth_server.specs.PrivateServer.{PrivateServer, Counts, arrived, counts_after, sent}
+use Rattle.aeth_server.specs.PrivateServer.{landed, taken, credited, returned}
 use Rattle.aeth_server.specs.AloneState.{AloneState, FitsMemory, IsStateAt, IsGivenAt, first_state}
 use Rattle.aeth_server.specs.AloneState.{next_counts, after_cycle}
 use Rattle.aeth_server.proofs.PrivateServerLemmas.{counts-none, counts_with, counts-next}

@@ -1,14 +1,13 @@
 -- The bound of a private server. Words go in slots, as far as the credits allow that have returned;
 -- credits go in the opposite slots for the words that were taken before.
 use Rattle.std.proofs.Common.{◌&&◌, Bool, ℕ, ◌+◌, ◌-◌, ◌*◌, ◌/◌, ◌<◌, ◌≤◌, ◌≡◌, zero, suc, length}
-use Rattle.std.proofs.Common.{ap, inl, inr, arith}
+use Rattle.std.proofs.Common.{ap, inl, inr, arith, nat_le, nat_lt}
 use Rattle.std.proofs.Math.Nat.{mul-le-mul_left, mul-le-mul_right, lt_of_mul-lt-mul_left}
-use Rattle.std.proofs.Math.Nat.{le_of_mul-le-mul_left, mul-div-le, lt-mul-div-succ, div-le_of_le-mul}
-use Rattle.std.proofs.lemmas.Nat.{le-div}
-use Rattle.std.proofs.lemmas.Bool.{cases_lt, cases_eq}
-use Rattle.std.proofs.lemmas.List.Kept.{IsNonDecreasingBy-filter}
+use Rattle.std.proofs.Math.Nat.{le_of_mul-le-mul_left, mul-div-le, lt-mul-div-succ}
+use Rattle.std.proofs.Math.Nat.{div-le_of_le-mul}
+use Rattle.std.proofs.lemmas.{Nat.le-div, Bool.cases_lt, Bool.cases_eq}
+use Rattle.std.proofs.lemmas.{List.Kept.IsNonDecreasingBy-filter}
 use Rattle.std.specs.List.Sorted.{IsNonDecreasing}
-use Rattle.std.specs.Prelude.{nat_le, nat_lt}
 use Rattle.aeth_base.specs.Limits.{credits_per_flit, words_per_flit}
 use Rattle.aeth_base.proofs.Sequences.{first-reached}
 use Rattle.aeth_server.specs.Shape.{IsGranted, payload_latency, credit_latency, buffer_of}

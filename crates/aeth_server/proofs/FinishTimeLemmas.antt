@@ -1,9 +1,9 @@
 -- Finish times leave room for each word and for those before it.
 use Rattle.std.proofs.Common.{ℕ, ◌+◌, ◌-◌, ◌*◌, ◌<◌, ◌≤◌, ◌≡◌, ◌∙◌, zero, suc, List, [], ◌∷◌}
-use Rattle.std.proofs.Common.{length, get_or, refl, ap, inl, inr, arith}
-use Rattle.std.specs.List.Sorted.{IsNonDecreasing}
+use Rattle.std.proofs.Common.{length, get_or, refl, ap, inl, inr, arith, lt-ltb, le-ltb}
 use Rattle.std.proofs.Math.Nat.{mul-le-mul_left}
-use Rattle.std.proofs.lemmas.Bool.{cases_lt, lt-ltb, le-ltb}
+use Rattle.std.proofs.lemmas.Bool.{cases_lt}
+use Rattle.std.specs.List.Sorted.{IsNonDecreasing}
 use Rattle.aeth_base.proofs.Lists.{IsNonDecreasing-tail}
 use Rattle.aeth_server.specs.FinishTimes.{arrivals_before, finish_time}
 

@@ -1,16 +1,14 @@
 -- The landing cycle and the due cycle of a word.
-use Rattle.std.proofs.Common.{◌↔◌, leb, ℕ, ◌+◌, ◌*◌, ◌<◌, ◌≤◌, ◌≡◌, zero, suc, true}
-use Rattle.std.proofs.Common.{false, refl, ap, inl, inr, arith}
-use Rattle.std.specs.Prelude.{List, slice_index}
+use Rattle.std.proofs.Common.{◌↔◌, leb, ℕ, ◌+◌, ◌*◌, ◌<◌, ◌≤◌, ◌≡◌, zero, suc, true, false, refl}
+use Rattle.std.proofs.Common.{ap, inl, inr, arith, List, slice_index, le-leb, leb-true}
 use Rattle.std.proofs.Math.Nat.{le_of_mul-le-mul_left}
-use Rattle.std.proofs.lemmas.Bool.{cases_lt, le-leb, leb-true}
-use Rattle.aeth_server.specs.FinishTimes.{due_cycle}
-use Rattle.aeth_server.specs.PrivateServer.{PrivateServer, landed}
-use Rattle.aeth_server.specs.Progress.{after_word, progress_of}
-use Rattle.aeth_server.specs.Landing.{LandsAt, landing_cycle}
+use Rattle.std.proofs.lemmas.Bool.{cases_lt}
+use Rattle.aeth_server.specs.{FinishTimes.due_cycle, PrivateServer.PrivateServer}
+use Rattle.aeth_server.specs.{PrivateServer.landed, Progress.after_word, Progress.progress_of}
+use Rattle.aeth_server.specs.{Landing.LandsAt, Landing.landing_cycle}
+use Rattle.aeth_server.proofs.PrivateServerLemmas.{counts-none}
 use Rattle.aeth_base.proofs.ExtremeLemmas.{true_and_false, least_below-passes, least_below-first}
 use Rattle.aeth_base.proofs.Division.{div_ceil-le, le-div_ceil}
-use Rattle.aeth_server.proofs.PrivateServerLemmas.{counts-none}
 
 -- Nothing has landed before the first cycle.
 landed-none : (server : PrivateServer) → landed server 0 ≡ 0

@@ -1,6 +1,5 @@
 -- Counts kept as a list of the last ones, newest first, and their bounds.
-use Rattle.std.proofs.Common.{ℕ, ◌≤◌, ◌≡◌, List, [], ◌∷◌, get_or, take, zero, suc, arith}
-use Rattle.std.specs.Prelude.{All}
+use Rattle.std.proofs.Common.{ℕ, ◌≤◌, ◌≡◌, List, [], ◌∷◌, get_or, take, zero, suc, arith, All}
 use Rattle.std.proofs.lemmas.List.Elements.{All-cons, All-take}
 
 -- No count is above the most that all are.

@@ -2,11 +2,11 @@
 use Rattle.std.proofs.Common.{ℕ, ◌+◌, ◌-◌, ◌*◌, ◌<◌, ◌≤◌, ◌≡◌, List, length, ap, arith}
 use Rattle.std.proofs.Math.Nat.{mul-le-mul_left}
 use Rattle.aeth_base.proofs.Division.{div_ceil-le, le-div_ceil}
-use Rattle.aeth_slots.specs.SlotSet.{Ascends}
+use Rattle.aeth_base.proofs.ExtremeLemmas.{greatest_below-above, greatest_below-least}
 use Rattle.aeth_base.specs.Extremes.{greatest_below}
+use Rattle.aeth_slots.specs.SlotSet.{Ascends}
 use Rattle.aeth_server.specs.SlotCycles.{nth_slot}
 use Rattle.aeth_server.specs.Latency.{BoundsService, lateness, lateness_from, latency_of}
-use Rattle.aeth_base.proofs.ExtremeLemmas.{greatest_below-above, greatest_below-least}
 use Rattle.aeth_server.proofs.SlotCycleLemmas.{nth_slot-reached}
 
 module _ (size : ℕ) (slots : List ℕ) (cap rate : ℕ) (some : 1 ≤ rate) where

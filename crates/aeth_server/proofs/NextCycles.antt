@@ -1,8 +1,8 @@
 -- The next cycle of a slot list, by the least slot at or after that of a cycle, and where there is none
 -- by the least of all.
-use Rattle.std.proofs.Common.{ℕ, ◌+◌, ◌-◌, ◌%◌, ◌<◌, ◌≤◌, ◌≡◌, ◌∙◌, List, [], ◌∷◌, Contains}
-use Rattle.std.proofs.Common.{length, sym, ap, inl, inr, arith}
-use Rattle.std.specs.Prelude.{Option, Some, None, unwrap_or, IfSome, IfNone}
+use Rattle.std.proofs.Common.{ℕ, ◌+◌, ◌-◌, ◌%◌, ◌<◌, ◌≤◌, ◌≡◌, ◌∙◌, List, [], ◌∷◌, Contains, length}
+use Rattle.std.proofs.Common.{sym, ap, inl, inr, arith, Option, Some, None, unwrap_or, IfSome}
+use Rattle.std.proofs.Common.{IfNone}
 use Rattle.std.proofs.Math.Nat.{mod-eq_of_lt, mod-lt, add-mod_right}
 use Rattle.std.proofs.lemmas.Bool.{cases_lt, false_from_ne_true}
 use Rattle.aeth_base.proofs.Members.{Contains-here}

@@ -2,6 +2,7 @@
 use Rattle.std.proofs.Common.{◌&&◌, ℕ, ◌+◌, ◌-◌, ◌≤◌, ◌≡◌, ◌∙◌, zero, suc, Bool, true, false, cond}
 use Rattle.std.proofs.Common.{ltb, ◌∷◌, min, sym, refl, ap, arith}
 use Rattle.aeth_base.specs.Limits.{credits_per_flit, words_per_flit}
+use Rattle.aeth_base.proofs.Sequences.{never-falls}
 use Rattle.aeth_server.specs.SlotCycles.{is_slot}
 use Rattle.aeth_server.specs.Shape.{HasPaths}
 use Rattle.aeth_server.specs.PrivateServer.{PrivateServer, Counts, counts_after, counts_ago}
@@ -9,7 +10,6 @@ use Rattle.aeth_server.specs.PrivateServer.{cycle_at, history, counts, accepted,
 use Rattle.aeth_server.specs.PrivateServer.{sent, landed, taken, credited, returned}
 use Rattle.aeth_server.specs.CountLaws.{IsStep, IsIdle, IsInOrder, HasRoom, FitsFlit, HasGrown}
 use Rattle.aeth_server.specs.CountLaws.{IsAlike}
-use Rattle.aeth_base.proofs.Sequences.{never-falls}
 use Rattle.aeth_server.proofs.FinishTimeLemmas.{arrivals_before-none, arrivals_before-more}
 
 -- ---- the history

@@ -1,7 +1,6 @@
 -- A private server is two slot servers, one for its words and one for its credits.
 use Rattle.std.proofs.Common.{◌&&◌, ℕ, ◌+◌, ◌-◌, ◌≤◌, ◌≡◌, ◌∙◌, zero, suc, Bool, true, false, cond}
-use Rattle.std.proofs.Common.{ltb, min, ap, arith}
-use Rattle.std.proofs.lemmas.Bool.{lt-ltb}
+use Rattle.std.proofs.Common.{ltb, min, ap, arith, lt-ltb}
 use Rattle.aeth_base.specs.Limits.{credits_per_flit, words_per_flit}
 use Rattle.aeth_server.specs.SlotCycles.{is_slot}
 use Rattle.aeth_server.specs.SlotServer.{served}

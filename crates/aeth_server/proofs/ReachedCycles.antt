@@ -1,8 +1,8 @@
 -- The cycle in which a count comes to a number: that it is one, and which it is of a count that grows
 -- in slots.
 use Rattle.std.proofs.Common.{◌&&◌, ℕ, ◌+◌, ◌<◌, ◌≤◌, ◌≡◌, ◌∙◌, zero, suc, Bool, true, false, cond}
-use Rattle.std.proofs.Common.{ltb, leb, min, refl, ap, inl, inr, arith}
-use Rattle.std.proofs.lemmas.Bool.{cases_lt, lt-ltb, le-leb, leb-true, false_from_ne_true}
+use Rattle.std.proofs.Common.{ltb, leb, min, refl, ap, inl, inr, arith, lt-ltb, le-leb, leb-true}
+use Rattle.std.proofs.lemmas.Bool.{cases_lt, false_from_ne_true}
 use Rattle.aeth_base.specs.Extremes.{least_below}
 use Rattle.aeth_base.proofs.ExtremeLemmas.{least_below-first, least_below-is, true_and_false}
 use Rattle.aeth_server.specs.WordCycles.{IsReachedIn, reached_in}

@@ -1,8 +1,6 @@
 -- Before its session goes a private server is idle, and after its session nothing changes.
-use Rattle.std.proofs.Common.{◌&&◌, ℕ, ◌+◌, ◌≤◌, ◌≡◌, ◌∙◌, Bool, true, false, cond}
-use Rattle.std.proofs.Common.{ltb, leb, List, [], ◌∷◌, refl, arith}
-use Rattle.std.specs.Prelude.{filter, nat_le, nat_lt}
-use Rattle.std.proofs.lemmas.Bool.{le-ltb, leb-true}
+use Rattle.std.proofs.Common.{◌&&◌, ℕ, ◌+◌, ◌≤◌, ◌≡◌, ◌∙◌, Bool, true, false, cond, ltb, leb, List}
+use Rattle.std.proofs.Common.{[], ◌∷◌, refl, arith, filter, nat_le, nat_lt, le-ltb, leb-true}
 use Rattle.aeth_base.proofs.Sequences.{rests}
 use Rattle.aeth_server.specs.FinishTimes.{arrivals_before}
 use Rattle.aeth_server.specs.Shape.{HasPaths}

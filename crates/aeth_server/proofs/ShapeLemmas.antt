@@ -1,15 +1,15 @@
 -- What a channel's shape gives.
 use Rattle.std.proofs.Common.{◌*◌, ◌+◌, ◌-◌, ◌<◌, ◌≡◌, ◌≤◌, ap, arith, subst, sym, ℕ}
-use Rattle.aeth_base.specs.Limits.{credits_per_flit, max_path_delay, max_receiver_delay}
-use Rattle.aeth_base.specs.Limits.{max_slots, words_per_flit}
+use Rattle.std.proofs.Math.Nat.{mul-le-mul}
+use Rattle.std.specs.Int.{div_ceil}
+use Rattle.aeth_base.specs.Limits.{credits_per_flit, max_path_delay, max_receiver_delay, max_slots}
+use Rattle.aeth_base.specs.Limits.{words_per_flit}
+use Rattle.aeth_base.proofs.Division.{le-div_ceil, div_ceil-le}
 use Rattle.aeth_slots.specs.SlotSet.{Ascends, IsSlotSet}
 use Rattle.aeth_server.specs.declared.shape.ChannelShape.{ChannelShape}
 use Rattle.aeth_server.specs.ChannelShape.{IsShapeInRange, shape_of}
 use Rattle.aeth_server.specs.Shape.{Shape, IsGranted, payload_latency, credit_latency, round_trip}
 use Rattle.aeth_server.specs.Shape.{buffer_of}
-use Rattle.aeth_base.proofs.Division.{le-div_ceil, div_ceil-le}
-use Rattle.std.proofs.Math.Nat.{mul-le-mul}
-use Rattle.std.specs.Int.{div_ceil}
 use Rattle.aeth_server.proofs.SlotCycleLemmas.{slots-most}
 use Rattle.aeth_server.proofs.ServiceLemmas.{IsBounded, latency-bounded, some-size}
 

@@ -1,15 +1,14 @@
 -- A single word: some slot comes within the gap of the slots, and the word goes in it.
 use Rattle.std.proofs.Common.{◌&&◌, ℕ, ◌+◌, ◌-◌, ◌%◌, ◌<◌, ◌≤◌, ◌≡◌, ◌⊎◌, ◌∙◌, zero, suc, Bool}
 use Rattle.std.proofs.Common.{true, cond, ltb, List, [], ◌∷◌, length, Contains, sym, refl, ap, inl}
-use Rattle.std.proofs.Common.{inr, arith}
+use Rattle.std.proofs.Common.{inr, arith, lt-ltb}
 use Rattle.std.proofs.Math.Nat.{mod-eq_of_lt, add-mod_right}
-use Rattle.std.proofs.lemmas.Bool.{cases_lt, lt-ltb}
+use Rattle.std.proofs.lemmas.Bool.{cases_lt}
 use Rattle.std.specs.List.Sorted.{IsNonDecreasing}
 use Rattle.aeth_slots.specs.SlotSet.{Ascends, distances, greatest, gap_of}
-use Rattle.aeth_server.specs.SlotCycles.{is_slot}
-use Rattle.aeth_server.specs.Shape.{HasPaths}
-use Rattle.aeth_server.specs.PrivateServer.{PrivateServer, accepted, arrived, sent, landed}
-use Rattle.aeth_server.specs.Landing.{WaitsAlone}
+use Rattle.aeth_server.specs.{SlotCycles.is_slot, Shape.HasPaths, PrivateServer.PrivateServer}
+use Rattle.aeth_server.specs.{PrivateServer.accepted, PrivateServer.arrived, PrivateServer.sent}
+use Rattle.aeth_server.specs.{PrivateServer.landed, Landing.WaitsAlone}
 use Rattle.aeth_server.proofs.SlotCycleLemmas.{is_slot-same, is_slot-member, same_slot-later}
 use Rattle.aeth_server.proofs.FinishTimeLemmas.{arrivals_before-more, arrived-after}
 use Rattle.aeth_server.proofs.PrivateServerLemmas.{words_ready, sent-next, sent-more, credited-more}

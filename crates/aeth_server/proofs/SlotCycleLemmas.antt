@@ -1,17 +1,15 @@
 -- How many slots lie in a stretch of cycles.
 use Rattle.std.proofs.Common.{ℕ, ◌+◌, ◌-◌, ◌*◌, ◌%◌, ◌<◌, ◌≤◌, ◌≡◌, ◌∙◌, zero, suc, Bool, true}
 use Rattle.std.proofs.Common.{false, eqb, leb, List, [], ◌∷◌, length, Contains, sym, refl, ap, inl}
-use Rattle.std.proofs.Common.{inr, arith}
+use Rattle.std.proofs.Common.{inr, arith, eqb-true, ne_eqb, eq-eqb, le-leb, leb-true}
 use Rattle.std.proofs.Math.Nat.{mod-eq_of_lt, mod-add-mod, add-mod_right}
-use Rattle.std.specs.Cmp.{nat_eq_equiv}
-use Rattle.std.specs.List.{list_any}
-use Rattle.std.proofs.lemmas.Bool.{eqb-true, ne_eqb, eq-eqb, le-leb, leb-true, false_from_ne_true}
-use Rattle.std.proofs.lemmas.Bool.{cases_lt}
+use Rattle.std.proofs.lemmas.Bool.{false_from_ne_true, cases_lt}
 use Rattle.std.proofs.lemmas.Map.Views.{Contains-from_any, list_any-from_Contains}
+use Rattle.std.specs.{Cmp.nat_eq_equiv, List.list_any}
 use Rattle.aeth_slots.specs.SlotSet.{Ascends}
 use Rattle.aeth_base.specs.Extremes.{least_below}
-use Rattle.aeth_server.specs.SlotCycles.{is_slot, slots_within, nth_slot}
 use Rattle.aeth_base.proofs.ExtremeLemmas.{true_and_false, least_below-passes, least_below-first}
+use Rattle.aeth_server.specs.SlotCycles.{is_slot, slots_within, nth_slot}
 
 -- Cycles with one slot have one slot as many cycles later.
 pub same_slot-later : (size s u n : ℕ) → s % size ≡ u % size → (s + n) % size ≡ (u + n) % size

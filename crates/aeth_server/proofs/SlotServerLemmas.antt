@@ -1,16 +1,16 @@
 -- What a slot server keeps: its words' finish times, and the service of a busy period.
 use Rattle.std.proofs.Common.{ℕ, ◌+◌, ◌-◌, ◌*◌, ◌/◌, ◌<◌, ◌≤◌, ◌≡◌, zero, suc, length, min, ap, inl}
 use Rattle.std.proofs.Common.{inr, arith}
-use Rattle.std.proofs.Math.Nat.{mul-div-le, lt-mul-div-succ}
-use Rattle.std.proofs.Math.Nat.{mul-le-mul_left, mul-le-mul_right, le_of_mul-le-mul_left}
+use Rattle.std.proofs.Math.Nat.{mul-div-le, lt-mul-div-succ, mul-le-mul_left, mul-le-mul_right}
+use Rattle.std.proofs.Math.Nat.{le_of_mul-le-mul_left}
 use Rattle.std.proofs.lemmas.Bool.{cases_eq}
 use Rattle.aeth_base.proofs.Sequences.{first-reached, never-falls}
 use Rattle.aeth_server.specs.FinishTimes.{arrivals_before}
 use Rattle.aeth_server.specs.SlotServer.{SlotServer, KeepsRate, IsSentBy, IsBusyPeriod, SendsInTurn}
 use Rattle.aeth_server.specs.SlotServer.{ServesAtRate, sent_by, own_latency, own_finish}
 use Rattle.aeth_server.specs.SlotServer.{arrival_after, steady_from}
-use Rattle.aeth_server.proofs.ServiceLemmas.{IsBounded, latency-bounded, served-by}
-use Rattle.aeth_server.proofs.ServiceLemmas.{served-next, some-size}
+use Rattle.aeth_server.proofs.ServiceLemmas.{IsBounded, latency-bounded, served-by, served-next}
+use Rattle.aeth_server.proofs.ServiceLemmas.{some-size}
 use Rattle.aeth_server.proofs.FinishTimeLemmas.{arrivals_before-none, finish-leaves}
 
 module _ (server : SlotServer) (keeps : KeepsRate server) where

@@ -1,8 +1,9 @@
 -- From a cycle on to the next slot of a table, or to its end.
-use Rattle.std.proofs.Common.{ℕ, zero, suc, ◌+◌, ◌-◌, ◌*◌, ◌%◌, ◌<◌, ◌≤◌, ◌≡◌, ◌∙◌, Bool, true, false}
-use Rattle.std.proofs.Common.{List, length, Contains, refl, sym, ap, inl, inr, subst, arith}
+use Rattle.std.proofs.Common.{ℕ, zero, suc, ◌+◌, ◌-◌, ◌*◌, ◌%◌, ◌<◌, ◌≤◌, ◌≡◌, ◌∙◌, Bool, true}
+use Rattle.std.proofs.Common.{false, List, length, Contains, refl, sym, ap, inl, inr, subst, arith}
+use Rattle.std.proofs.Common.{le-leb}
 use Rattle.std.proofs.Math.Nat.{mod-eq_of_lt}
-use Rattle.std.proofs.lemmas.Bool.{cases_lt, false_from_ne_true, le-leb}
+use Rattle.std.proofs.lemmas.Bool.{cases_lt, false_from_ne_true}
 use Rattle.aeth_base.specs.Extremes.{least_below}
 use Rattle.aeth_base.proofs.ExtremeLemmas.{least_below-first, true_and_false}
 use Rattle.aeth_slots.specs.SlotSet.{Ascends}

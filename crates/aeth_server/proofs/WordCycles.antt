@@ -1,8 +1,7 @@
 -- When a word is sent, lands, is taken and credited, from the words before it.
 use Rattle.std.proofs.Common.{ℕ, ◌+◌, ◌-◌, ◌<◌, ◌≤◌, ◌≡◌, zero, suc, min, subst, refl, ap, length}
 use Rattle.std.proofs.Common.{get_or, inl, inr, arith, nat_lt}
-use Rattle.std.proofs.lemmas.Bool.{cases_lt}
-use Rattle.std.proofs.lemmas.List.Sums.{length-filter, count_by-le-length}
+use Rattle.std.proofs.lemmas.{Bool.cases_lt, List.Sums.length-filter, List.Sums.count_by-le-length}
 use Rattle.aeth_base.specs.Limits.{credits_per_flit, words_per_flit}
 use Rattle.aeth_server.specs.Landing.{landing_cycle}
 use Rattle.aeth_server.specs.PrivateServer.{PrivateServer, accepted, credited, landed, pull_at}

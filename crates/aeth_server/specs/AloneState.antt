@@ -1,7 +1,7 @@
 -- A private server in the memory of its last cycles.
 -- This project's own.
-use Rattle.std.specs.Prelude.{ℕ, ◌+◌, ◌-◌, ◌<◌, ◌≤◌, ◌≡◌, nat_lt, Bool, List, ◌∷◌, slice_index}
-use Rattle.std.specs.Prelude.{replicate, take, All}
+use Rattle.std.proofs.Common.{ℕ, ◌+◌, ◌-◌, ◌<◌, ◌≤◌, ◌≡◌, nat_lt, Bool, List, ◌∷◌, slice_index}
+use Rattle.std.proofs.Common.{replicate, take, All}
 use Rattle.aeth_base.specs.Limits.{max_path_delay, max_queue_words}
 use Rattle.aeth_server.specs.Limits.{max_session_words}
 use Rattle.aeth_server.specs.Shape.{Shape, HasPaths}

@@ -1,8 +1,8 @@
 -- A `ChannelShape` as the shape of a channel.
-use Rattle.std.specs.Prelude.{◌*◌, ◌≤◌, ◌≡◌, length}
-use Rattle.aeth_base.specs.Limits.{credits_per_flit, max_path_delay, max_receiver_delay, words_per_flit}
-use Rattle.aeth_server.specs.declared.shape.ChannelShape.{ChannelShape}
-use Rattle.aeth_server.specs.Shape.{Shape}
+use Rattle.std.proofs.Common.{◌*◌, ◌≤◌, ◌≡◌, length}
+use Rattle.aeth_base.specs.Limits.{credits_per_flit, max_path_delay, max_receiver_delay}
+use Rattle.aeth_base.specs.Limits.{words_per_flit}
+use Rattle.aeth_server.specs.{declared.shape.ChannelShape.ChannelShape, Shape.Shape}
 
 -- The rate is that of the need: a flit of words in each slot that is needed.
 abbrev pub shape_of : ChannelShape → Shape

@@ -1,7 +1,7 @@
 -- When a latency-rate server is done with each of its words.
 -- Latency-rate server: after Stiliadis and Varma (1998), for whole words.
-use Rattle.std.specs.Prelude.{ℕ, ◌+◌, ◌*◌, max, nat_lt, List, length, filter, slice_index, zero}
-use Rattle.std.specs.Prelude.{suc}
+use Rattle.std.proofs.Common.{ℕ, ◌+◌, ◌*◌, max, nat_lt, List, length, filter, slice_index, zero}
+use Rattle.std.proofs.Common.{suc}
 use Rattle.std.specs.Int.{div_ceil}
 
 -- How many words arrive before cycle t, of words that arrive in these cycles.

@@ -1,6 +1,6 @@
 -- When the words of a private server land, and when they are due.
 -- Due times: after the latency-rate server (Stiliadis and Varma, 1998), for whole words.
-use Rattle.std.specs.Prelude.{ℕ, ◌+◌, ◌-◌, ◌*◌, ◌<◌, ◌≤◌, ◌≡◌, nat_le, slice_index, length}
+use Rattle.std.proofs.Common.{ℕ, ◌+◌, ◌-◌, ◌*◌, ◌<◌, ◌≤◌, ◌≡◌, nat_le, slice_index, length}
 use Rattle.aeth_slots.specs.Choice.{IsSuitable}
 use Rattle.aeth_base.specs.Extremes.{least_below}
 use Rattle.aeth_server.specs.FinishTimes.{finish_time}

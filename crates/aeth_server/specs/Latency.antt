@@ -2,7 +2,7 @@
 -- one that sends without a break at its rate. Rates are in words per table.
 -- Latency and rate, often theta and rho: after the latency-rate server (Stiliadis and Varma, 1998),
 -- for whole words.
-use Rattle.std.specs.Prelude.{ℕ, ◌+◌, ◌-◌, ◌*◌, ◌<◌, ◌≤◌, List, length}
+use Rattle.std.proofs.Common.{ℕ, ◌+◌, ◌-◌, ◌*◌, ◌<◌, ◌≤◌, List, length}
 use Rattle.std.specs.Int.{div_ceil}
 use Rattle.aeth_base.specs.Extremes.{greatest_below}
 use Rattle.aeth_server.specs.SlotCycles.{nth_slot}

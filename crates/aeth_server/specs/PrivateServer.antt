@@ -9,12 +9,10 @@
 --   counts_ago, history, counts    the counts after each cycle, newest first, and after the last
 --   sent, landed, taken, credited, returned    each count by itself
 -- Credits: after Æthereal (2005). The private server: this project's own.
-use Rattle.std.specs.Prelude.{ℕ, ◌+◌, ◌-◌, ◌&&◌, nat_lt, nat_le, min, Bool, if◌then◌else◌, List, []}
-use Rattle.std.specs.Prelude.{◌∷◌, slice_index_or, filter, zero, suc}
+use Rattle.std.proofs.Common.{ℕ, ◌+◌, ◌-◌, ◌&&◌, nat_lt, nat_le, min, Bool, if◌then◌else◌, List, []}
+use Rattle.std.proofs.Common.{◌∷◌, slice_index_or, filter, zero, suc}
 use Rattle.aeth_base.specs.Limits.{credits_per_flit, words_per_flit}
-use Rattle.aeth_server.specs.SlotCycles.{is_slot}
-use Rattle.aeth_server.specs.FinishTimes.{arrivals_before}
-use Rattle.aeth_server.specs.Shape.{Shape}
+use Rattle.aeth_server.specs.{SlotCycles.is_slot, FinishTimes.arrivals_before, Shape.Shape}
 
 -- What a private server is given: the shape and the buffer; the cycles at which its session goes,
 -- accepts no more words, stops sending and finishes; the cycles in which words are offered on the

@@ -1,8 +1,7 @@
 -- Due times one word after the other.
-use Rattle.std.specs.Prelude.{ℕ, ◌+◌, ◌*◌, ◌≤◌, max, List}
+use Rattle.std.proofs.Common.{ℕ, ◌+◌, ◌*◌, ◌≤◌, max, List}
 use Rattle.aeth_base.specs.Limits.{max_cycles, max_path_delay, max_slots, words_per_flit}
-use Rattle.aeth_server.specs.Limits.{max_session_words}
-use Rattle.aeth_server.specs.FinishTimes.{finish_time}
+use Rattle.aeth_server.specs.{Limits.max_session_words, FinishTimes.finish_time}
 
 -- How far the words of a session are: the table size, the rate and the latency, how many words
 -- there were, and the finish time of the last one.

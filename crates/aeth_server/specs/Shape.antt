@@ -1,7 +1,7 @@
 -- What one channel is granted and asks for, and what follows: its latencies, the round trip of a
 -- word and its credit, and the buffer.
 -- End-to-end flow control: after Æthereal (2005). Rate and buffer: this project's own.
-use Rattle.std.specs.Prelude.{ℕ, ◌+◌, ◌*◌, ◌≤◌, List, length}
+use Rattle.std.proofs.Common.{ℕ, ◌+◌, ◌*◌, ◌≤◌, List, length}
 use Rattle.std.specs.Int.{div_ceil}
 use Rattle.aeth_base.specs.Limits.{credits_per_flit, words_per_flit}
 use Rattle.aeth_slots.specs.SlotSet.{Ascends}

@@ -1,7 +1,7 @@
 -- The cycles of a slot set: cycle t has slot t modulo the table size.
 -- Slot table: after Æthereal (2005).
-use Rattle.std.specs.Prelude.{ℕ, ◌+◌, ◌*◌, ◌%◌, ◌==◌, ◌≡◌, ◌≤◌, ◌<◌, nat_le, Bool, true, false}
-use Rattle.std.specs.Prelude.{if◌then◌else◌, List, zero, suc}
+use Rattle.std.proofs.Common.{ℕ, ◌+◌, ◌*◌, ◌%◌, ◌==◌, ◌≡◌, ◌≤◌, ◌<◌, nat_le, Bool, true, false}
+use Rattle.std.proofs.Common.{if◌then◌else◌, List, zero, suc}
 use Rattle.std.specs.List.{list_any}
 use Rattle.aeth_base.specs.Extremes.{least_below}
 

@@ -8,13 +8,12 @@
 --   arrival_after, steady_from, IsBusyPeriod    a busy period, and from when on it has the rate
 --   SendsInTurn, ServesAtRate    what a busy period is served
 -- Busy period: after the latency-rate server (Stiliadis and Varma, 1998), for whole words.
-use Rattle.std.specs.Prelude.{ℕ, ◌+◌, ◌-◌, ◌*◌, ◌/◌, ◌<◌, ◌≤◌, ◌≡◌, min, if◌then◌else◌, List}
-use Rattle.std.specs.Prelude.{length, slice_index, zero, suc}
+use Rattle.std.proofs.Common.{ℕ, ◌+◌, ◌-◌, ◌*◌, ◌/◌, ◌<◌, ◌≤◌, ◌≡◌, min, if◌then◌else◌, List}
+use Rattle.std.proofs.Common.{length, slice_index, zero, suc}
 use Rattle.std.specs.List.Sorted.{IsNonDecreasing}
 use Rattle.aeth_slots.specs.SlotSet.{Ascends}
-use Rattle.aeth_server.specs.SlotCycles.{is_slot, slots_within}
-use Rattle.aeth_server.specs.Latency.{latency_of}
-use Rattle.aeth_server.specs.FinishTimes.{arrivals_before, finish_time}
+use Rattle.aeth_server.specs.{SlotCycles.is_slot, SlotCycles.slots_within, Latency.latency_of}
+use Rattle.aeth_server.specs.{FinishTimes.arrivals_before, FinishTimes.finish_time}
 
 -- What a server sends in the first t cycles, where the count tells how many words arrive in them:
 -- in each slot as many as wait, and cap at most. A word can be sent in the cycle of its arrival.

@@ -8,10 +8,9 @@
 --   IsReadyToGo, IsTakingFrom, IsCreditReady      from when on a word, with i before it, can be sent, is
 --                                                 waited for by its receiver, and can be credited
 -- This project's own.
-use Rattle.std.specs.Prelude.{ℕ, ◌+◌, ◌-◌, ◌<◌, ◌≤◌, ◌≡◌, ◌⊎◌, nat_le, length, slice_index}
+use Rattle.std.proofs.Common.{ℕ, ◌+◌, ◌-◌, ◌<◌, ◌≤◌, ◌≡◌, ◌⊎◌, nat_le, length, slice_index}
 use Rattle.std.specs.List.Sorted.{IsNonDecreasing}
-use Rattle.aeth_base.specs.Extremes.{least_below}
-use Rattle.aeth_base.specs.Limits.{credits_per_flit, words_per_flit}
+use Rattle.aeth_base.specs.{Extremes.least_below, Limits.credits_per_flit, Limits.words_per_flit}
 use Rattle.aeth_server.specs.PrivateServer.{PrivateServer, accepted, credited, landed, sent, taken}
 use Rattle.aeth_server.specs.Shape.{HasPaths}
 

@@ -2,28 +2,21 @@
 -- where the whole free set is suitable.
 use Rattle.std.proofs.Common.{ℕ, ◌<◌, ◌≡◌, ◌≢◌, ◌↔◌, ◌∙◌, true, false, List, [], ◌∷◌, length}
 use Rattle.std.proofs.Common.{filter, get_or, Contains, Option, Some, None, sym, refl, ap, subst}
-use Rattle.std.proofs.Common.{inl, inr, arith, IsSome}
-use Rattle.std.specs.List.{best_of}
-use Rattle.std.specs.declared.cmp.Ordering.TheVariants.{Less}
-use Rattle.std.specs.Ordering.{nat_cmp, is_lt}
-use Rattle.std.specs.Cmp.{IsTotalOrder}
-use Rattle.std.specs.Cmp.Lexicographic.{slice_cmp}
-use Rattle.std.proofs.lemmas.Cmp.{nat_cmp_total, nat_list_cmp_total, on_total, then_total}
-use Rattle.std.proofs.lemmas.Map.Lookups.{exact_bytes}
-use Rattle.std.proofs.lemmas.List.MinMax.{ranks_by, IsFirstBest-from_best_of}
-use Rattle.std.proofs.lemmas.Bool.{lt-ltb, le-ltb, eq-eqb, both_ways, le-leb, leb-true, and_from}
-use Rattle.std.proofs.lemmas.Bool.{and_parts, cases_lt}
-use Rattle.std.proofs.lemmas.Option.{same_Some, none-some}
-use Rattle.std.proofs.lemmas.List.Elements.{Contains-get_or}
+use Rattle.std.proofs.Common.{inl, inr, arith, IsSome, lt-ltb, le-ltb, eq-eqb, le-leb, leb-true}
+use Rattle.std.proofs.lemmas.{Cmp.nat_cmp_total, Cmp.nat_list_cmp_total, Cmp.on_total}
+use Rattle.std.proofs.lemmas.{Cmp.then_total, Map.Lookups.exact_bytes, List.MinMax.ranks_by}
+use Rattle.std.proofs.lemmas.{List.MinMax.IsFirstBest-from_best_of, Bool.both_ways, Bool.and_from}
+use Rattle.std.proofs.lemmas.{Bool.and_parts, Bool.cases_lt, Option.same_Some, Option.none-some}
+use Rattle.std.proofs.lemmas.{List.Elements.Contains-get_or, List.get_or_default}
+use Rattle.std.specs.{List.best_of, declared.cmp.Ordering.TheVariants.Less, Ordering.nat_cmp}
+use Rattle.std.specs.{Ordering.is_lt, Cmp.IsTotalOrder, Cmp.Lexicographic.slice_cmp}
 use Rattle.aeth_slots.specs.SlotSet.{Slots, IsSlotSet, gap_of}
 use Rattle.aeth_slots.specs.Choice.{IsSuitable, is_suitable, sublists, subsets, choice_order}
 use Rattle.aeth_slots.specs.Choice.{first_by, chosen, IsChosen}
+use Rattle.aeth_slots.proofs.{Sublists.sublists-itself, Rounds.subset-size, Rounds.subset-round}
+use Rattle.aeth_slots.proofs.{Rounds.round-length, Rounds.round-suitable, Rounds.round-whole}
 use Rattle.aeth_base.proofs.Members.{Contains-nil, Contains-map, Contains-filter, filter-Contains}
 use Rattle.aeth_base.proofs.TestLemmas.{equal_from_turned}
-use Rattle.std.proofs.lemmas.List.{get_or_default}
-use Rattle.aeth_slots.proofs.Sublists.{sublists-itself}
-use Rattle.aeth_slots.proofs.Rounds.{subset-size, subset-round, round-length, round-suitable}
-use Rattle.aeth_slots.proofs.Rounds.{round-whole}
 
 -- The test says what the fact says.
 pub is_suitable-true : (need gap : ℕ) (set : Slots) → is_suitable need gap set ≡ true

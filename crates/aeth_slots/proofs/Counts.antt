@@ -1,14 +1,10 @@
 -- The number of a mask's ones is the length of their list.
 use Rattle.std.proofs.Common.{ℕ, ◌+◌, ◌*◌, ◌/◌, ◌%◌, ◌^◌, ◌<◌, ◌≡◌, ◌∙◌, zero, suc, Bool, true}
-use Rattle.std.proofs.Common.{false, cond, eqb, ◌∷◌, length, sym, refl, ap, arith}
-use Rattle.std.specs.Int.{bit_at}
-use Rattle.std.specs.Int.Count.{ones}
-use Rattle.std.proofs.lemmas.Nat.{ones_cat}
-use Rattle.std.proofs.lemmas.Nat.Bits.{bit_at-lt}
-use Rattle.std.proofs.lemmas.Bool.{eqb-true, eqb-false}
-use Rattle.aeth_slots.specs.Bits.{ones_from}
-use Rattle.aeth_slots.specs.BitLemmas.{places-suc, places-none, places-all}
-use Rattle.aeth_slots.specs.SlotSet.{Slots}
+use Rattle.std.proofs.Common.{false, cond, eqb, ◌∷◌, length, sym, refl, ap, arith, eqb-true}
+use Rattle.std.proofs.lemmas.{Nat.ones_cat, Nat.Bits.bit_at-lt, Bool.eqb-false}
+use Rattle.std.specs.Int.{bit_at, Count.ones}
+use Rattle.aeth_slots.specs.{Bits.ones_from, BitLemmas.places-suc, BitLemmas.places-none}
+use Rattle.aeth_slots.specs.{BitLemmas.places-all, SlotSet.Slots}
 use Rattle.aeth_slots.proofs.Masks.{IsView, zero_bit}
 
 bit-ones : (b : ℕ) → b < 2 → ones b ≡ b

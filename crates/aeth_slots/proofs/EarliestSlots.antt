@@ -1,12 +1,9 @@
 -- Laws of the earliest slots from which an end is reached.
 use Rattle.std.proofs.Common.{ℕ, ◌+◌, ◌-◌, ◌<◌, ◌≤◌, ◌≡◌, ◌⊎◌, List, [], ◌∷◌, length, Contains, set}
-use Rattle.std.proofs.Common.{sym, subst, inl, inr, arith}
-use Rattle.std.proofs.lemmas.Bool.{cases_eq, cases_lt}
-use Rattle.std.proofs.lemmas.Grind.{get_or-set_at}
-use Rattle.std.proofs.lemmas.List.{get_or-set_other}
-use Rattle.aeth_slots.specs.SlotSet.{IsNextSlot}
-use Rattle.aeth_slots.specs.Ways.{AreEarliest, IsEarliest, IsWay, ReachesWithin}
-use Rattle.aeth_slots.proofs.Ways.{within_more}
+use Rattle.std.proofs.Common.{sym, subst, inl, inr, arith, get_or-set_other}
+use Rattle.std.proofs.lemmas.{Bool.cases_eq, Bool.cases_lt, Grind.get_or-set_at}
+use Rattle.aeth_slots.{specs.SlotSet.IsNextSlot, specs.Ways.AreEarliest, specs.Ways.IsEarliest}
+use Rattle.aeth_slots.{specs.Ways.IsWay, specs.Ways.ReachesWithin, proofs.Ways.within_more}
 
 -- A way over at most no slot ends near enough.
 within_none : (free : List ℕ) (end gap from : ℕ) → ReachesWithin free end gap from 0

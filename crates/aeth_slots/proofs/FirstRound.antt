@@ -1,9 +1,8 @@
 -- The steps of the search for the first round: the least first slot, and the first way from there.
 use Rattle.std.proofs.Common.{ℕ, ◌+◌, ◌-◌, ◌<◌, ◌≡◌, ◌≢◌, suc, List, [], ◌∷◌, length, Contains}
 use Rattle.std.proofs.Common.{append-nil, sym, subst, arith}
-use Rattle.std.specs.declared.cmp.Ordering.TheVariants.{Less}
-use Rattle.std.specs.Ordering.{nat_cmp}
-use Rattle.std.specs.Cmp.Lexicographic.{slice_cmp}
+use Rattle.std.specs.{declared.cmp.Ordering.TheVariants.Less, Ordering.nat_cmp}
+use Rattle.std.specs.{Cmp.Lexicographic.slice_cmp}
 use Rattle.aeth_slots.specs.SlotSet.{Slots, IsSlotSet, Ascends, with_slot}
 use Rattle.aeth_slots.specs.Ways.{IsWay, Reaches, ReachesWithin, IsFirstWay, IsNextOnWay}
 use Rattle.aeth_slots.specs.Ways.{AddsFirstWay, IsRound, IsFirstMember, IsFirstRound}

@@ -1,13 +1,12 @@
 -- The steps of the search for the chosen set: the fewest slots of a way, the least first slot and
 -- the least size of a round, and the first round.
-use Rattle.std.proofs.Common.{ℕ, ◌+◌, ◌-◌, ◌<◌, ◌≤◌, ◌≡◌, ◌∙◌, min, max, suc, List, [], ◌∷◌}
-use Rattle.std.proofs.Common.{length, Contains, sym, refl, subst, inl, inr, arith}
+use Rattle.std.proofs.Common.{ℕ, ◌+◌, ◌-◌, ◌<◌, ◌≤◌, ◌≡◌, ◌∙◌, min, max, suc, List, [], ◌∷◌, length}
+use Rattle.std.proofs.Common.{Contains, sym, refl, subst, inl, inr, arith}
 use Rattle.std.proofs.lemmas.Bool.{cases_eq, cases_lt}
 use Rattle.aeth_slots.specs.SlotSet.{Slots, IsSlotSet}
 use Rattle.aeth_slots.specs.Choice.{IsSuitable, subsets, IsChosen}
-use Rattle.aeth_slots.specs.Ways.{IsWay, ReachesWithin, IsEarliest, IsFewest}
-use Rattle.aeth_slots.specs.Ways.{IsRound, HasRound, IsLeastSize}
-use Rattle.aeth_slots.specs.Ways.{IsFirstMember, IsFirstRound}
+use Rattle.aeth_slots.specs.Ways.{IsWay, ReachesWithin, IsEarliest, IsFewest, IsRound, HasRound}
+use Rattle.aeth_slots.specs.Ways.{IsLeastSize, IsFirstMember, IsFirstRound}
 use Rattle.aeth_slots.proofs.Ways.{exact_from_within, way_nearer, way_end}
 use Rattle.aeth_slots.proofs.ChoiceLemmas.{subsets-itself}
 use Rattle.aeth_slots.proofs.Rounds.{set_of, free_below, round-subset, round-suitable, subset-round}

@@ -1,16 +1,15 @@
 -- Laws of rounds: they are the suitable subsets, and a slot that was left out can be put in.
 use Rattle.std.proofs.Common.{ℕ, ◌+◌, ◌-◌, ◌<◌, ◌≤◌, ◌≡◌, zero, suc, List, [], ◌∷◌, length}
 use Rattle.std.proofs.Common.{Contains, sym, refl, ap, subst, inl, inr, arith}
-use Rattle.aeth_slots.specs.SlotSet.{Slots, IsSlotSet}
-use Rattle.aeth_slots.specs.Choice.{IsSuitable, sublists, subsets}
-use Rattle.aeth_slots.specs.Ways.{IsWay, IsRound, HasRound}
-use Rattle.aeth_base.proofs.Members.{Contains-nil, Contains-here, Contains-there, Contains-cases}
-use Rattle.aeth_base.proofs.Members.{Contains-map, map-Contains}
+use Rattle.aeth_slots.specs.{SlotSet.Slots, SlotSet.IsSlotSet, Choice.IsSuitable, Choice.sublists}
+use Rattle.aeth_slots.specs.{Choice.subsets, Ways.IsWay, Ways.IsRound, Ways.HasRound}
 use Rattle.aeth_slots.proofs.Ascending.{Ascends-bounds}
 use Rattle.aeth_slots.proofs.Sublists.{above_head, sublist-member, sublist-ascends}
 use Rattle.aeth_slots.proofs.Sublists.{sublist-from_members, sublist-length, sublist-whole}
 use Rattle.aeth_slots.proofs.Ways.{way_ascends, way_free, way_near, way_from, way_nearer, way_end}
 use Rattle.aeth_slots.proofs.Ways.{way_more}
+use Rattle.aeth_base.proofs.Members.{Contains-nil, Contains-here, Contains-there, Contains-cases}
+use Rattle.aeth_base.proofs.Members.{Contains-map, map-Contains}
 
 -- A set over the slots of a free set.
 abbrev pub set_of : Slots → List ℕ → Slots

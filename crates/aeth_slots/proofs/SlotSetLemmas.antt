@@ -1,15 +1,13 @@
 -- Laws of slot sets: the slots of a set that was rotated or met, equal sets, and the greatest of a
 -- list with one more number.
-use Rattle.std.proofs.Common.{ℕ, ◌+◌, ◌%◌, ◌≡◌, ◌↔◌, ◌++◌, eqb, map, max, List, [], ◌∷◌, Contains, sym}
-use Rattle.std.proofs.Common.{ap, subst, arith}
-use Rattle.std.specs.List.{list_any}
-use Rattle.std.proofs.lemmas.Bool.{eqb-true, eq-eqb, and_from, and_parts}
-use Rattle.std.proofs.lemmas.Slice.Eq.{bytes_eq-Decides}
-use Rattle.std.specs.Bool.{Decides}
+use Rattle.std.proofs.Common.{ℕ, ◌+◌, ◌%◌, ◌≡◌, ◌↔◌, ◌++◌, eqb, map, max, List, [], ◌∷◌, Contains}
+use Rattle.std.proofs.Common.{sym, ap, subst, arith, eqb-true, eq-eqb}
+use Rattle.std.proofs.lemmas.{Bool.and_from, Bool.and_parts, Slice.Eq.bytes_eq-Decides}
+use Rattle.std.specs.{List.list_any, Bool.Decides}
 use Rattle.aeth_slots.specs.SlotSet.{Slots, same_set, rotated, common, greatest}
+use Rattle.aeth_slots.proofs.Ascending.{Contains-ascending, ascending-Contains}
 use Rattle.aeth_base.proofs.Members.{Contains-map, Contains-list_any, list_any-Contains}
 use Rattle.aeth_base.proofs.Members.{map-Contains, Contains-filter, filter-Contains}
-use Rattle.aeth_slots.proofs.Ascending.{Contains-ascending, ascending-Contains}
 
 -- The slots of a rotated set are those that are so many on from a slot of the set.
 pub Contains-rotated : (by : ℕ) (set : Slots) (t : ℕ)

@@ -3,11 +3,10 @@ use Rattle.std.proofs.Common.{ℕ, ◌+◌, ◌<◌, ◌≤◌, ◌≡◌, ◌�
 use Rattle.std.proofs.Common.{ap, subst, inl, inr, arith}
 use Rattle.std.proofs.lemmas.List.Elements.{Contains-append_left, Contains-append_right}
 use Rattle.std.proofs.lemmas.List.Elements.{Contains-append_cases}
-use Rattle.aeth_slots.specs.SlotSet.{Ascends}
-use Rattle.aeth_slots.specs.Choice.{sublists}
+use Rattle.aeth_slots.specs.{SlotSet.Ascends, Choice.sublists}
+use Rattle.aeth_slots.proofs.Ascending.{Ascends-bounds, Ascends-wider}
 use Rattle.aeth_base.proofs.Members.{Contains-nil, Contains-here, Contains-there, Contains-cases}
 use Rattle.aeth_base.proofs.Members.{Contains-map, map-Contains}
-use Rattle.aeth_slots.proofs.Ascending.{Ascends-bounds, Ascends-wider}
 
 -- A sublist has the head and a sublist of the rest, or is a sublist of the rest.
 pub sublists-cases : (x : ℕ) (xs zs : List ℕ) → Contains (sublists (x ∷ xs)) zs

@@ -1,11 +1,10 @@
 -- A set is suitable exactly where a round starts at its first slot.
 use Rattle.std.proofs.Common.{ℕ, ◌+◌, ◌<◌, ◌≤◌, ◌≡◌, suc, List, [], ◌∷◌, length, Contains, Option}
-use Rattle.std.proofs.Common.{None, Some, IsSome, refl, subst, arith}
-use Rattle.std.specs.Prelude.{IfNone, IfSome, IsTrue, is_some}
+use Rattle.std.proofs.Common.{None, Some, IsSome, refl, subst, arith, IfNone, IfSome, IsTrue}
+use Rattle.std.proofs.Common.{is_some}
 use Rattle.aeth_base.proofs.Members.{Contains-here}
-use Rattle.aeth_slots.specs.SlotSet.{Ascends, IsNextSlot, IsSlotSet, Slots}
-use Rattle.aeth_slots.specs.Choice.{IsSuitable}
-use Rattle.aeth_slots.specs.Ways.{IsFewest, IsRound}
+use Rattle.aeth_slots.specs.{SlotSet.Ascends, SlotSet.IsNextSlot, SlotSet.IsSlotSet, SlotSet.Slots}
+use Rattle.aeth_slots.specs.{Choice.IsSuitable, Ways.IsFewest, Ways.IsRound}
 use Rattle.aeth_slots.proofs.Ascending.{Ascends-bounds}
 use Rattle.aeth_slots.proofs.ChoiceLemmas.{subsets-itself}
 use Rattle.aeth_slots.proofs.Rounds.{round-length, round-suitable, round-whole, subset-round}

@@ -1,13 +1,12 @@
 -- Laws of the slots of a table that pass a test, and of sets that are joined or cut by others.
-use Rattle.std.proofs.Common.{ℕ, ◌+◌, ◌<◌, ◌≡◌, ◌↔◌, ◌∙◌, zero, suc, Bool, true, false}
-use Rattle.std.proofs.Common.{Contains, arith, subst, refl, sym, zero-add}
-use Rattle.std.specs.List.{range_with_len}
-use Rattle.std.specs.Bool.{Decides}
+use Rattle.std.proofs.Common.{ℕ, ◌+◌, ◌<◌, ◌≡◌, ◌↔◌, ◌∙◌, zero, suc, Bool, true, false, Contains}
+use Rattle.std.proofs.Common.{arith, subst, refl, sym, zero-add}
+use Rattle.std.specs.{List.range_with_len, Bool.Decides}
 use Rattle.aeth_slots.specs.SlotSet.{Slots, Ascends, slots_where, has_slot}
-use Rattle.aeth_base.proofs.Ranges.{Contains-range}
-use Rattle.aeth_base.proofs.Members.{Contains-filter, filter-Contains}
 use Rattle.aeth_slots.proofs.Ascending.{Ascends-bounds, Ascends-filter, same_members}
-use Rattle.aeth_base.proofs.Members.{list_any-Contains, Contains-list_any}
+use Rattle.aeth_base.proofs.Ranges.{Contains-range}
+use Rattle.aeth_base.proofs.Members.{Contains-filter, filter-Contains, list_any-Contains}
+use Rattle.aeth_base.proofs.Members.{Contains-list_any}
 
 -- The numbers from a first one on ascend.
 pub Ascends-range : (low size : ℕ) → Ascends low (low + size) (range_with_len low size)

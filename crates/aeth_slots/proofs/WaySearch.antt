@@ -1,11 +1,10 @@
 -- The steps of the search for the first way: its next slot, and the slots from there.
 use Rattle.std.proofs.Common.{ℕ, ◌+◌, ◌<◌, ◌≤◌, ◌≡◌, ◌≢◌, ◌∙◌, max, suc, List, [], ◌∷◌, ◌++◌}
-use Rattle.std.proofs.Common.{length, Contains, sym, ap, subst, inl, inr, arith}
-use Rattle.std.proofs.Common.{append_assoc}
-use Rattle.std.specs.declared.cmp.Ordering.TheVariants.{Less}
-use Rattle.std.specs.Ordering.{nat_cmp}
-use Rattle.std.specs.Cmp.Lexicographic.{slice_cmp}
-use Rattle.std.proofs.lemmas.Bool.{cases_eq, eq-eqb, ne_eqb, le-ltb}
+use Rattle.std.proofs.Common.{length, Contains, sym, ap, subst, inl, inr, arith, append_assoc}
+use Rattle.std.proofs.Common.{eq-eqb, ne_eqb, le-ltb}
+use Rattle.std.proofs.lemmas.Bool.{cases_eq}
+use Rattle.std.specs.{declared.cmp.Ordering.TheVariants.Less, Ordering.nat_cmp}
+use Rattle.std.specs.{Cmp.Lexicographic.slice_cmp}
 use Rattle.aeth_slots.specs.SlotSet.{IsNextSlot, Ascends, with_slot}
 use Rattle.aeth_slots.specs.Ways.{IsWay, Reaches, ReachesWithin, IsEarliest, IsNextOnWay}
 use Rattle.aeth_slots.specs.Ways.{IsFirstWay, AddsFirstWay}

@@ -1,12 +1,11 @@
 -- Laws of ways over free slots: their first steps, how many slots they have, and ways as lists.
-use Rattle.std.proofs.Common.{ℕ, ◌+◌, ◌<◌, ◌≤◌, zero, suc, List, [], ◌∷◌, length}
-use Rattle.std.proofs.Common.{Contains, sym, refl, ap, subst, inl, inr, arith}
+use Rattle.std.proofs.Common.{ℕ, ◌+◌, ◌<◌, ◌≤◌, zero, suc, List, [], ◌∷◌, length, Contains, sym}
+use Rattle.std.proofs.Common.{refl, ap, subst, inl, inr, arith}
 use Rattle.std.proofs.lemmas.Bool.{cases_lt}
 use Rattle.aeth_slots.specs.SlotSet.{Ascends, distances, greatest}
 use Rattle.aeth_slots.specs.Ways.{IsWay, Reaches, ReachesWithin}
+use Rattle.aeth_slots.proofs.{Sublists.above_head, Ascending.Ascends-bounds}
 use Rattle.aeth_base.proofs.Members.{Contains-nil, Contains-here, Contains-there, Contains-cases}
-use Rattle.aeth_slots.proofs.Sublists.{above_head}
-use Rattle.aeth_slots.proofs.Ascending.{Ascends-bounds}
 
 -- ---- ways by their first step
 

@@ -1,13 +1,11 @@
 -- The law by which a slot set gives its mask back: the mask of the places of a mask's ones is
 -- the mask. It stands beside the definitions, since the type's model cites it.
 use Rattle.std.proofs.Common.{ℕ, ◌+◌, ◌*◌, ◌/◌, ◌%◌, ◌^◌, ◌<◌, ◌≡◌, ◌∙◌, zero, suc, Bool, true}
-use Rattle.std.proofs.Common.{false, cond, eqb, List, ◌∷◌, sym, refl, ap, arith, zero-mul}
-use Rattle.std.proofs.Math.Nat.{mod-eq_of_lt}
+use Rattle.std.proofs.Common.{false, cond, eqb, List, ◌∷◌, sym, refl, ap, arith, zero-mul, shr-shr}
+use Rattle.std.proofs.Common.{pow-add}
+use Rattle.std.proofs.Math.{Nat.mod-eq_of_lt, Numerals.add-one}
+use Rattle.std.proofs.lemmas.{Nat.mod-pow-add, Nat.Bits.bit_at-lt, Bool.Decides.nat_tests}
 use Rattle.std.specs.Int.{bit_at}
-use Rattle.std.proofs.Math.Numerals.{add-one}
-use Rattle.std.proofs.lemmas.Nat.{mod-pow-add, shr-shr, pow-add}
-use Rattle.std.proofs.lemmas.Nat.Bits.{bit_at-lt}
-use Rattle.std.proofs.lemmas.Bool.Decides.{nat_tests}
 use Rattle.aeth_slots.specs.Bits.{ones_from, mask_of}
 
 -- Some places of a mask are its first bit there and the places above.

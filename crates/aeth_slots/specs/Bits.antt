@@ -1,5 +1,5 @@
 -- A mask of bits as the list of the places of its ones, and back.
-use Rattle.std.specs.Prelude.{ℕ, ◌+◌, ◌^◌, ◌==◌, ◌<◌, ◌≤◌, if◌then◌else◌, List, [], ◌∷◌, zero, suc}
+use Rattle.std.proofs.Common.{ℕ, ◌+◌, ◌^◌, ◌==◌, ◌<◌, ◌≤◌, if◌then◌else◌, List, [], ◌∷◌, zero, suc}
 use Rattle.std.specs.Int.{bit_at}
 use Rattle.aeth_base.specs.Limits.{max_slots}
 

@@ -6,13 +6,11 @@
 --   sublists, subsets           every sublist of a list, every set of slots out of a set
 --   choice_order, first_by      fewer slots first, then the lexicographic order
 --   chosen, IsChosen            the chosen set as a function, and by what holds of it
-use Rattle.std.specs.Prelude.{ℕ, ◌≤◌, ◌≡◌, ◌≢◌, ◌&&◌, nat_le, Bool, List, [], ◌∷◌, ◌++◌, length}
-use Rattle.std.specs.Prelude.{map, filter, Contains, Option, Some, None}
-use Rattle.std.specs.List.{best_of}
-use Rattle.std.specs.declared.cmp.Ordering.{Ordering}
-use Rattle.std.specs.declared.cmp.Ordering.TheVariants.{Less}
-use Rattle.std.specs.Ordering.{nat_cmp, on, then_cmp, is_lt}
-use Rattle.std.specs.Cmp.Lexicographic.{slice_cmp}
+use Rattle.std.proofs.Common.{ℕ, ◌≤◌, ◌≡◌, ◌≢◌, ◌&&◌, nat_le, Bool, List, [], ◌∷◌, ◌++◌, length}
+use Rattle.std.proofs.Common.{map, filter, Contains, Option, Some, None}
+use Rattle.std.specs.{List.best_of, declared.cmp.Ordering.Ordering}
+use Rattle.std.specs.{declared.cmp.Ordering.TheVariants.Less, Ordering.nat_cmp, Ordering.on}
+use Rattle.std.specs.{Ordering.then_cmp, Ordering.is_lt, Cmp.Lexicographic.slice_cmp}
 use Rattle.aeth_slots.specs.SlotSet.{Slots, gap_of}
 
 -- A set that isn't empty, has the slots that are needed, and has no gap above the limit.

@@ -8,12 +8,10 @@
 --   all_slots, joined, without    what `full`, `join` and `without` give
 --   IsNextSlot                   what `at_or_after` gives
 --   gap_of                       the greatest cyclic distance from a slot to the next
-use Rattle.std.specs.Prelude.{ℕ, ◌+◌, ◌-◌, ◌%◌, ◌<◌, ◌≤◌, ◌==◌, nat_lt, max, if◌then◌else◌, Bool}
-use Rattle.std.specs.Prelude.{◌||◌, not}
-use Rattle.std.specs.Prelude.{List, [], ◌∷◌, map, filter, Contains}
-use Rattle.std.specs.Ordering.{on, eq_of_both}
-use Rattle.std.specs.Cmp.Lexicographic.{pointwise}
-use Rattle.std.specs.List.{list_any, range_with_len}
+use Rattle.std.proofs.Common.{ℕ, ◌+◌, ◌-◌, ◌%◌, ◌<◌, ◌≤◌, ◌==◌, nat_lt, max, if◌then◌else◌, Bool}
+use Rattle.std.proofs.Common.{◌||◌, not, List, [], ◌∷◌, map, filter, Contains}
+use Rattle.std.specs.{Ordering.on, Ordering.eq_of_both, Cmp.Lexicographic.pointwise, List.list_any}
+use Rattle.std.specs.{List.range_with_len}
 use Rattle.aeth_base.specs.Limits.{max_slots}
 
 -- A slot table's size, and slots of this table, ascending.

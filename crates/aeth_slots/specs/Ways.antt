@@ -7,11 +7,10 @@
 --   IsRound, HasRound, StartsWithin      ways once round the table
 --   IsLeastSize, IsFirstMember, IsFirstRound      the number of slots of a round, and the first of these rounds
 --
-use Rattle.std.specs.Prelude.{ℕ, ◌+◌, ◌<◌, ◌≤◌, ◌≡◌, ◌≢◌, List, [], ◌∷◌, ◌++◌, length, Contains}
-use Rattle.std.specs.Prelude.{max, slice_index}
-use Rattle.std.specs.declared.cmp.Ordering.TheVariants.{Less}
-use Rattle.std.specs.Ordering.{nat_cmp}
-use Rattle.std.specs.Cmp.Lexicographic.{slice_cmp}
+use Rattle.std.proofs.Common.{ℕ, ◌+◌, ◌<◌, ◌≤◌, ◌≡◌, ◌≢◌, List, [], ◌∷◌, ◌++◌, length, Contains}
+use Rattle.std.proofs.Common.{max, slice_index}
+use Rattle.std.specs.{declared.cmp.Ordering.TheVariants.Less, Ordering.nat_cmp}
+use Rattle.std.specs.{Cmp.Lexicographic.slice_cmp}
 use Rattle.aeth_slots.specs.SlotSet.{Slots}
 
 -- From a slot over free slots, each after the one before, to an end: no step is above the gap.

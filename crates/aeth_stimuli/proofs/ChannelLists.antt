@@ -1,19 +1,16 @@
 -- Lists of channels: those of connections that pass a test, and of these the one of a number.
 use Rattle.std.proofs.Common.{◌≡◌, ◌≤◌, ◌<◌, ◌+◌, ◌==◌, ◌&&◌, ◌∙◌, ◌++◌, ℕ, zero, suc, Bool, true}
-use Rattle.std.proofs.Common.{false, List, [], ◌∷◌, ap, arith, filter, inl, inr, map, refl}
-use Rattle.std.proofs.Common.{subst, sym}
-use Rattle.std.specs.Prelude.{flat_map}
+use Rattle.std.proofs.Common.{false, List, [], ◌∷◌, ap, arith, filter, inl, inr, map, refl, subst}
+use Rattle.std.proofs.Common.{sym, flat_map, ne_eqb}
+use Rattle.std.proofs.lemmas.Bool.{and_left, cases_Bool, cases_eq}
 use Rattle.std.specs.List.{range_with_len}
-use Rattle.std.proofs.lemmas.Bool.{and_left, cases_Bool, cases_eq, ne_eqb}
 use Rattle.aeth_base.specs.declared.ids.Channel.{Channel}
-use Rattle.aeth_base.specs.declared.ids.Side.{Side}
-use Rattle.aeth_base.specs.declared.ids.Side.TheVariants.{Back, Fwd}
+use Rattle.aeth_base.specs.declared.ids.Side.{Side, TheVariants.Back, TheVariants.Fwd}
 use Rattle.aeth_base.specs.Sides.{same_side}
 use Rattle.aeth_base.proofs.Filters.{filter-no, filter-yes}
 use Rattle.aeth_trace.specs.Channels.{channel_number, is_channel}
 use Rattle.aeth_trace.proofs.IndexLemmas.{same_sides}
-use Rattle.aeth_report.specs.Channels.{channels_with}
-use Rattle.aeth_report.proofs.ChannelLemmas.{is_channel-itself}
+use Rattle.aeth_report.{specs.Channels.channels_with, proofs.ChannelLemmas.is_channel-itself}
 
 -- Channels have one number where they are one.
 pub same_numbers : (one other : Channel)

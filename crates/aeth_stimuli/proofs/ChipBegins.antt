@@ -1,36 +1,31 @@
 -- The components of a chip are empty at first.
-use Rattle.std.proofs.Common.{◌≡◌, ◌<◌, ◌∙◌, ℕ, ◌*◌, refl, sym, ap, subst, arith}
-use Rattle.std.proofs.Common.{List, [], ◌∷◌, Option, Some, None, get_or, length, map, replicate, slice_get}
-use Rattle.std.specs.List.{slice_index_or}
+use Rattle.std.proofs.Common.{◌≡◌, ◌<◌, ◌∙◌, ℕ, ◌*◌, refl, sym, ap, subst, arith, List, [], ◌∷◌}
+use Rattle.std.proofs.Common.{Option, Some, None, get_or, length, map, replicate, slice_get}
 use Rattle.std.proofs.lemmas.List.{get_or-map, length-map, length-replicate}
 use Rattle.std.proofs.lemmas.Option.{slice_get-get_or}
-use Rattle.aeth_chip.specs.Chip.{ChipData, IsChip}
-use Rattle.aeth_chip.specs.Wires.{wires_of}
-use Rattle.aeth_clocked.specs.Wires.{flit_on}
-use Rattle.aeth_clocked.specs.declared.flit.Flit.{Flit}
+use Rattle.std.specs.List.{slice_index_or}
+use Rattle.aeth_chip.specs.{Chip.ChipData, Chip.IsChip, Wires.wires_of}
+use Rattle.aeth_clocked.specs.{Wires.flit_on, declared.flit.Flit.Flit}
 use Rattle.aeth_clocked.proofs.ClearLemmas.{flit_on-replicate}
-use Rattle.aeth_ni.specs.Limits.{queues_of_interface}
-use Rattle.aeth_ni.specs.Queue.{empty_queue}
+use Rattle.aeth_ni.specs.{Limits.queues_of_interface, Queue.empty_queue}
 use Rattle.aeth_router.specs.Router.{RouterState, entering_wires, new_router}
 use Rattle.aeth_router.specs.Stage.{StageState}
 use Rattle.aeth_router.specs.TableRouter.{TableRouterState}
 use Rattle.aeth_router.specs.declared.part.Part.{Part}
 use Rattle.aeth_router.specs.declared.part.Part.TheVariants.{Router, Stage, TableRouter}
 use Rattle.aeth_router.proofs.TableLemmas.{get_or-same}
-use Rattle.aeth_components.proofs.MadeLemmas.{IsInterface, IsRouter, IsStage, IsWired-new, length-new_parts, part-at}
-use Rattle.aeth_components.specs.Components.{first_components}
-use Rattle.aeth_components.specs.Frames.{IsWired, frame_of}
-use Rattle.aeth_components.specs.Making.{made_interface, made_stage, new_parts}
-use Rattle.aeth_components.specs.Switching.{entry_in, entry_of}
-use Rattle.aeth_components.specs.View.{queue_in}
-use Rattle.aeth_components.specs.declared.lane.Lane.{Lane}
-use Rattle.aeth_components.specs.declared.making.RouterKind.TheVariants.{ByHeader}
+use Rattle.aeth_components.proofs.MadeLemmas.{IsInterface, IsRouter, IsStage, IsWired-new}
+use Rattle.aeth_components.proofs.MadeLemmas.{length-new_parts, part-at}
+use Rattle.aeth_components.specs.{Components.first_components, Frames.IsWired, Frames.frame_of}
+use Rattle.aeth_components.specs.{Making.made_interface, Making.made_stage, Making.new_parts}
+use Rattle.aeth_components.specs.{Switching.entry_in, Switching.entry_of, View.queue_in}
+use Rattle.aeth_components.specs.{declared.lane.Lane.Lane}
+use Rattle.aeth_components.specs.{declared.making.RouterKind.TheVariants.ByHeader}
 use Rattle.aeth_refinement.specs.Fabric.{Fabric, Passage}
 use Rattle.aeth_fabric.specs.Wiring.{fabric_on}
 use Rattle.aeth_stimuli.proofs.ChipFrames.{framed, queues-are}
-use Rattle.aeth_invariant.specs.Beginning.{AreEmpty, HasRoom}
-use Rattle.aeth_invariant.specs.Framed.{IsFramed}
 use Rattle.aeth_stimuli.specs.OnChip.{HaveRooms, IsOver, rooms_at}
+use Rattle.aeth_invariant.specs.{Beginning.AreEmpty, Beginning.HasRoom, Framed.IsFramed}
 
 -- Where none of a list has a flit, it is a list of none.
 no-flits : (f : ℕ → Option Flit) → ((x : ℕ) → f x ≡ None) → (xs : List ℕ)

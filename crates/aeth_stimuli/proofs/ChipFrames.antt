@@ -1,36 +1,32 @@
 -- The components of a chip are those of a fabric on it.
-use Rattle.std.proofs.Common.{◌≡◌, ◌≤◌, ◌<◌, ◌∙◌, ℕ, suc, ◌+◌, ◌*◌, ◌-◌, refl, sym, ap, subst, arith, true}
-use Rattle.std.proofs.Common.{List, Option, Some, None, drop, get_or, length, map, replicate, slice_get}
-use Rattle.std.specs.Prelude.{◌==◌, slice_index, slice_range}
-use Rattle.std.proofs.lemmas.Bool.{eqb-true}
-use Rattle.std.proofs.lemmas.List.{length-drop, length-map, length-replicate, length-take}
+use Rattle.std.proofs.Common.{◌≡◌, ◌≤◌, ◌<◌, ◌∙◌, ℕ, suc, ◌+◌, ◌*◌, ◌-◌, refl, sym, ap, subst}
+use Rattle.std.proofs.Common.{arith, true, List, Option, Some, None, drop, get_or, length, map}
+use Rattle.std.proofs.Common.{replicate, slice_get, ◌==◌, slice_index, slice_range, eqb-true}
+use Rattle.std.proofs.Common.{length-drop, length-take}
+use Rattle.std.proofs.lemmas.List.{length-map, length-replicate}
 use Rattle.std.proofs.lemmas.Option.{slice_get-get_or, slice_get_within}
-use Rattle.aeth_base.specs.declared.ids.LinkId.{LinkId}
-use Rattle.aeth_base.specs.declared.ids.NiId.{NiId}
+use Rattle.aeth_base.specs.declared.ids.{LinkId.LinkId, NiId.NiId}
 use Rattle.aeth_chip.proofs.NodeLemmas.{numbers_from-once, same_node-true}
 use Rattle.aeth_chip.proofs.WireLemmas.{have_delays, wire_at-below, wires_of-split}
-use Rattle.aeth_chip.specs.Chip.{ChipData, IsChip}
-use Rattle.aeth_chip.specs.Nodes.{begins_at, receives_on, sends_on}
-use Rattle.aeth_chip.specs.Wires.{wire_at, wires_of}
-use Rattle.aeth_chip.specs.declared.node.Link.{Link}
-use Rattle.aeth_chip.specs.declared.node.Node.{Node}
-use Rattle.aeth_chip.specs.declared.node.Node.TheVariants.{Ni, Router}
-use Rattle.aeth_ni.specs.Limits.{queues_of_interface}
-use Rattle.aeth_ni.specs.Queue.{QueueState, empty_queue}
+use Rattle.aeth_chip.specs.{Chip.ChipData, Chip.IsChip, Nodes.begins_at, Nodes.receives_on}
+use Rattle.aeth_chip.specs.{Nodes.sends_on, Wires.wire_at, Wires.wires_of, declared.node.Link.Link}
+use Rattle.aeth_chip.specs.{declared.node.Node.Node, declared.node.Node.TheVariants.Ni}
+use Rattle.aeth_chip.specs.{declared.node.Node.TheVariants.Router}
+use Rattle.aeth_ni.specs.{Limits.queues_of_interface, Queue.QueueState, Queue.empty_queue}
 use Rattle.aeth_router.proofs.LinkLemmas.{is_among-at, passes-from_is_among, position-at}
 use Rattle.aeth_router.specs.Router.{entering_wires, is_among, last_wire}
 use Rattle.aeth_router.specs.declared.part.Part.{Part}
-use Rattle.aeth_components.proofs.MadeLemmas.{IsInterface, IsRouter, IsStage, IsWired-new, length-new_parts, made-at}
+use Rattle.aeth_components.proofs.MadeLemmas.{IsInterface, IsRouter, IsStage, IsWired-new}
+use Rattle.aeth_components.proofs.MadeLemmas.{length-new_parts, made-at}
 use Rattle.aeth_components.proofs.MadeParts.{StageAt}
 use Rattle.aeth_components.specs.Frames.{Frame, InterfaceFrame, frame_of, sends_by}
 use Rattle.aeth_components.specs.Making.{made_interface, made_router, made_stage, new_parts}
 use Rattle.aeth_components.specs.declared.making.RouterKind.TheVariants.{ByHeader}
 use Rattle.aeth_report.specs.Routes.{port_of}
-use Rattle.aeth_fabric.proofs.WiredLemmas.{port_at}
-use Rattle.aeth_fabric.proofs.WireEnds.{first-starts, further-starts}
-use Rattle.aeth_fabric.proofs.WirePlaces.{wire_place-is}
-use Rattle.aeth_refinement.specs.Fabric.{AtInterface, AtRouter, AtStage, Fabric, Passage}
+use Rattle.aeth_fabric.proofs.{WiredLemmas.port_at, WireEnds.first-starts, WireEnds.further-starts}
+use Rattle.aeth_fabric.proofs.{WirePlaces.wire_place-is}
 use Rattle.aeth_fabric.specs.Wiring.{fabric_on, node_end, wire_place, start_in, start_of}
+use Rattle.aeth_refinement.specs.Fabric.{AtInterface, AtRouter, AtStage, Fabric, Passage}
 use Rattle.aeth_stimuli.specs.OnChip.{IsOver}
 use Rattle.aeth_invariant.specs.Framed.{HasSession, IsFramed, IsFrom, IsFromRouter, IsFromStage}
 

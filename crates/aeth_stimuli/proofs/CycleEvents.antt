@@ -1,23 +1,17 @@
 -- The events of each cycle of a run are those of the sessions of its fabric.
 use Rattle.std.proofs.Common.{◌≡◌, ◌<◌, ◌∙◌, ◌+◌, ℕ, List, [], ◌∷◌, Some, ap, arith, filter, inl}
-use Rattle.std.proofs.Common.{get_or, inr, map, refl, slice_get, subst, sym}
-use Rattle.std.specs.Prelude.{◌==◌}
+use Rattle.std.proofs.Common.{get_or, inr, map, refl, slice_get, subst, sym, ◌==◌, eq-eqb, eqb-true}
+use Rattle.std.proofs.lemmas.{Bool.cases_Bool, Bool.cases_lt, List.Kept.AllPairs-filter}
+use Rattle.std.proofs.lemmas.{Option.get_or_from_slice_get, Option.slice_get_within}
 use Rattle.std.specs.List.{AllPairs, zip}
-use Rattle.std.proofs.lemmas.Bool.{cases_Bool, cases_lt, eq-eqb, eqb-true}
-use Rattle.std.proofs.lemmas.List.Kept.{AllPairs-filter}
-use Rattle.std.proofs.lemmas.Option.{get_or_from_slice_get, slice_get_within}
 use Rattle.aeth_base.proofs.Members.{Contains-filter, Contains-map, filter-Contains, map-Contains}
 use Rattle.aeth_tables.proofs.ListLaws.{has_place, place_in}
-use Rattle.aeth_components.specs.Switching.{Touches, Writes}
-use Rattle.aeth_components.specs.declared.event.Event.{Event}
-use Rattle.aeth_accepted.specs.Inputs.{AreAccepted, Inputs}
-use Rattle.aeth_accepted.proofs.SoundRuns.{AreSpans}
+use Rattle.aeth_components.specs.{Switching.Touches, Switching.Writes, declared.event.Event.Event}
+use Rattle.aeth_accepted.{specs.Inputs.AreAccepted, specs.Inputs.Inputs, proofs.SoundRuns.AreSpans}
 use Rattle.aeth_fabric.specs.Fabric.{fabric_of}
 use Rattle.aeth_invariant.specs.Events.{AreEvents, IsEventOf, Occurs}
-use Rattle.aeth_schedule.specs.Switching.{events_at, timed_of}
-use Rattle.aeth_schedule.specs.declared.timed.Timed.{Timed}
-use Rattle.aeth_stimuli.specs.Events.{events_in}
-use Rattle.aeth_stimuli.specs.Stimuli.{stimuli_of}
+use Rattle.aeth_schedule.specs.{Switching.events_at, Switching.timed_of, declared.timed.Timed.Timed}
+use Rattle.aeth_stimuli.specs.{Events.events_in, Stimuli.stimuli_of}
 use Rattle.aeth_stimuli.proofs.EventsOfSessions.{event-is}
 use Rattle.aeth_stimuli.proofs.Pairs.{pairs-map}
 use Rattle.aeth_stimuli.proofs.RunEvents.{caused, timed-precede}

@@ -1,12 +1,10 @@
 -- Each event of a run is one of a session, in the cycle of that.
-use Rattle.std.proofs.Common.{◌≡◌, ◌<◌, ◌∙◌, ◌+◌, ℕ, zero, suc, true, Contains, Some, ap, arith, get_or}
-use Rattle.std.proofs.Common.{inl, inr, length, slice_get, subst, sym}
+use Rattle.std.proofs.Common.{◌≡◌, ◌<◌, ◌∙◌, ◌+◌, ℕ, zero, suc, true, Contains, Some, ap, arith}
+use Rattle.std.proofs.Common.{get_or, inl, inr, length, slice_get, subst, sym, ◌==◌, not}
 use Rattle.std.proofs.lemmas.Bool.{and_parts, cases_lt}
 use Rattle.std.proofs.lemmas.Option.{same_Some, slice_get-get_or, slice_get_within}
-use Rattle.std.specs.Prelude.{◌==◌, not}
 use Rattle.std.specs.List.{list_any, position_or_len}
-use Rattle.aeth_base.specs.declared.ids.Channel.{Channel}
-use Rattle.aeth_base.proofs.Members.{map-Contains}
+use Rattle.aeth_base.{specs.declared.ids.Channel.Channel, proofs.Members.map-Contains}
 use Rattle.aeth_slots.specs.SlotSet.{Ascends}
 use Rattle.aeth_group.specs.Members.{GroupsData, group_at, groups_of, has_at, is_kept}
 use Rattle.aeth_ni.specs.declared.row.ChannelRow.{ChannelRow}
@@ -15,8 +13,8 @@ use Rattle.aeth_ni.specs.declared.write.Write.TheVariants.{ClearRoute, ClearSlot
 use Rattle.aeth_trace.specs.Spans.{SpanData}
 use Rattle.aeth_report.specs.Sessions.{Switch, close_by, closes}
 use Rattle.aeth_reconf.specs.Rows.{RowOf, channels_that, rows_closing, rows_opening, switch_program}
-use Rattle.aeth_reconf.specs.Windows.{IsClosed, IsClosingWrite, IsOpened, IsOpeningWrite, cleared_of}
-use Rattle.aeth_reconf.specs.Windows.{clears_from, freed_of, set_of, set_route}
+use Rattle.aeth_reconf.specs.Windows.{IsClosed, IsClosingWrite, IsOpened, IsOpeningWrite}
+use Rattle.aeth_reconf.specs.Windows.{cleared_of, clears_from, freed_of, set_of, set_route}
 use Rattle.aeth_reconf.proofs.WritePlaces.{of_channel}
 use Rattle.aeth_reconf.proofs.WriteTimes.{clear_at, free_at, route_at, slot_at as set_slot_at}
 use Rattle.aeth_accepted.specs.Inputs.{AreAccepted, Inputs, design_of, row_at, run_of}
@@ -31,8 +29,8 @@ use Rattle.aeth_stimuli.proofs.OverChips.{rows_known}
 use Rattle.aeth_stimuli.proofs.Pairs.{channel-passes}
 use Rattle.aeth_stimuli.proofs.RunEvents.{granted-in}
 use Rattle.aeth_stimuli.proofs.SwitchEvents.{IsChange, IsFinish, IsHalt, event-by}
-use Rattle.aeth_stimuli.proofs.SwitchSessions.{IsClosedAt, IsIn, closed-at, closed-with}
-use Rattle.aeth_stimuli.proofs.SwitchSessions.{opened-at, opened-with, own-slot, row-is, slot-between}
+use Rattle.aeth_stimuli.proofs.SwitchSessions.{IsClosedAt, IsIn, closed-at, closed-with, opened-at}
+use Rattle.aeth_stimuli.proofs.SwitchSessions.{opened-with, own-slot, row-is, slot-between}
 
 module _ (inputs : Inputs) (accepted : AreAccepted inputs) where
   abbrev groups : GroupsData

@@ -1,8 +1,6 @@
 -- What is written before the first cycle are the events of a fabric's sessions that fall there.
 use Rattle.std.proofs.Common.{◌≡◌, ◌<◌, ◌∙◌, ℕ, true, List, [], ◌∷◌, Contains, Option, Some, ap}
-use Rattle.std.proofs.Common.{arith, length}
-use Rattle.std.proofs.Common.{map, refl, slice_get, subst, sym}
-use Rattle.std.specs.Prelude.{None, Ok}
+use Rattle.std.proofs.Common.{arith, length, map, refl, slice_get, subst, sym, None, Ok}
 use Rattle.std.specs.List.{AllPairs, flat_map}
 use Rattle.aeth_base.specs.declared.ids.Channel.{Channel}
 use Rattle.aeth_base.proofs.Members.{Contains-flat_map, Contains-here, Contains-map, Contains-there}
@@ -11,30 +9,27 @@ use Rattle.aeth_slots.specs.SlotSet.{Ascends}
 use Rattle.aeth_group.specs.Members.{GroupsData, group_at, groups_of, has_at}
 use Rattle.aeth_ni.specs.Program.{opening_writes}
 use Rattle.aeth_ni.specs.declared.row.ChannelRow.{ChannelRow}
-use Rattle.aeth_ni.specs.declared.write.Write.{Write}
-use Rattle.aeth_ni.specs.declared.write.Write.TheVariants.{SetRoute, SetSlot}
-use Rattle.aeth_trace.specs.Spans.{SpanData}
-use Rattle.aeth_trace.specs.Switches.{is_first_at_zero}
-use Rattle.aeth_trace.specs.declared.switches.SwitchRow.{SwitchRow}
+use Rattle.aeth_ni.specs.declared.write.Write.{Write, TheVariants.SetRoute, TheVariants.SetSlot}
+use Rattle.aeth_trace.specs.{Spans.SpanData, Switches.is_first_at_zero}
+use Rattle.aeth_trace.specs.{declared.switches.SwitchRow.SwitchRow}
 use Rattle.aeth_report.specs.Sessions.{Stay, Switch}
 use Rattle.aeth_reconf.specs.Rows.{Meets, RowOf, channels_that, rows_that}
 use Rattle.aeth_reconf.specs.Windows.{set_of, set_route, slot_set_of}
 use Rattle.aeth_reconf.proofs.WindowLemmas.{channels_that-has}
 use Rattle.aeth_tables.proofs.ListLaws.{has_place, place_in}
 use Rattle.aeth_accepted.specs.Inputs.{AreAccepted, Inputs, design_of, row_at, run_of}
-use Rattle.aeth_components.specs.declared.event.Event.{Event}
-use Rattle.aeth_components.specs.declared.event.Event.TheVariants.{Change}
+use Rattle.aeth_accepted.proofs.ApartRows.{all_apart}
+use Rattle.aeth_components.specs.declared.event.Event.{Event, TheVariants.Change}
 use Rattle.aeth_refinement.specs.Fabric.{flow_at, has_slot, server_at}
 use Rattle.aeth_refinement.specs.Switches.{freed_of as freed_at, set_of as set_at}
 use Rattle.aeth_fabric.specs.Fabric.{Placed, fabric_of, placed_at, placed_of, row_in, slot_at}
-use Rattle.aeth_accepted.proofs.ApartRows.{all_apart}
-use Rattle.aeth_fabric.proofs.ApartWires.{slot_place}
-use Rattle.aeth_fabric.proofs.Numbers.{placed-there}
+use Rattle.aeth_fabric.proofs.{ApartWires.slot_place, Numbers.placed-there}
 use Rattle.aeth_invariant.specs.Events.{AreEvents, IsEventOf, IsWriteOf, Occurs, ni_of}
 use Rattle.aeth_schedule.specs.Switching.{changes, loaded_by, loaded_of}
 use Rattle.aeth_stimuli.proofs.CycleEvents.{queue-once, slot-once}
 use Rattle.aeth_stimuli.proofs.EventsOfSessions.{on-queue, on-slot, slots-ascend}
-use Rattle.aeth_stimuli.proofs.LoadedEvents.{AreApartWrites, IsRoute, IsSlot, opening-of, openings-apart}
+use Rattle.aeth_stimuli.proofs.LoadedEvents.{AreApartWrites, IsRoute, IsSlot, opening-of}
+use Rattle.aeth_stimuli.proofs.LoadedEvents.{openings-apart}
 use Rattle.aeth_stimuli.proofs.Pairs.{Differ, channel-passes, channels-differ, pairs-map}
 use Rattle.aeth_stimuli.proofs.SessionEvents.{ByNone, BySwitch, Loaded, Opened, late, opens-by}
 use Rattle.aeth_stimuli.proofs.SessionEvents.{row-there, shuts}

@@ -1,15 +1,12 @@
 -- The components of a chip can do each event of its run, and these come in the order of cycles.
 use Rattle.std.proofs.Common.{◌≡◌, ◌≤◌, ◌<◌, ◌∙◌, ◌*◌, ◌+◌, ℕ, All, List, None, Option, Some, ap}
-use Rattle.std.proofs.Common.{arith, get_or}
-use Rattle.std.proofs.Common.{inl, inr, length, map, refl, replicate, slice_get, subst, sym}
-use Rattle.std.specs.Prelude.{IfSome, option_map}
-use Rattle.std.specs.List.Sorted.{IsNonDecreasing}
+use Rattle.std.proofs.Common.{arith, get_or, inl, inr, length, map, refl, replicate, slice_get}
+use Rattle.std.proofs.Common.{subst, sym, IfSome, option_map}
 use Rattle.std.proofs.lemmas.Bool.{cases_lt}
-use Rattle.std.proofs.lemmas.List.{length-map, length-replicate}
-use Rattle.std.proofs.lemmas.List.FromFn.{length-map-range_with_len}
+use Rattle.std.proofs.lemmas.List.{length-map, length-replicate, FromFn.length-map-range_with_len}
 use Rattle.std.proofs.lemmas.Option.{slice_get-get_or, slice_get-map, slice_get_within}
-use Rattle.aeth_base.specs.declared.ids.NiId.{NiId}
-use Rattle.aeth_base.proofs.Members.{map-Contains}
+use Rattle.std.specs.List.Sorted.{IsNonDecreasing}
+use Rattle.aeth_base.{specs.declared.ids.NiId.NiId, proofs.Members.map-Contains}
 use Rattle.aeth_ni.specs.Limits.{queues_of_interface}
 use Rattle.aeth_ni.specs.declared.write.Write.{Write}
 use Rattle.aeth_ni.specs.declared.write.Write.TheVariants.{ClearRoute, ClearSlot, SetRoute, SetSlot}
@@ -22,25 +19,17 @@ use Rattle.aeth_components.specs.declared.event.Event.{Event}
 use Rattle.aeth_components.specs.declared.event.Event.TheVariants.{Change, Finish, Halt}
 use Rattle.aeth_components.specs.declared.making.RouterKind.TheVariants.{ByHeader}
 use Rattle.aeth_components.proofs.PartLemmas.{frames-switched}
-use Rattle.aeth_accepted.specs.Inputs.{AreAccepted, Inputs}
-use Rattle.aeth_accepted.proofs.SoundRuns.{AreSpans}
+use Rattle.aeth_accepted.{specs.Inputs.AreAccepted, specs.Inputs.Inputs, proofs.SoundRuns.AreSpans}
 use Rattle.aeth_refinement.specs.Fabric.{Passage}
-use Rattle.aeth_fabric.specs.Fabric.{fabric_of}
-use Rattle.aeth_fabric.proofs.RunFabrics.{is_accepted}
+use Rattle.aeth_fabric.{specs.Fabric.fabric_of, proofs.RunFabrics.is_accepted}
 use Rattle.aeth_invariant.specs.Events.{IsEventOf, IsWriteOf, OnQueue, OnSlot}
-use Rattle.aeth_schedule.specs.Rooms.{rooms_of}
-use Rattle.aeth_schedule.specs.Switching.{loaded_of, timed_of}
-use Rattle.aeth_schedule.specs.declared.timed.Timed.{Timed}
+use Rattle.aeth_schedule.specs.{Rooms.rooms_of, Switching.loaded_of, Switching.timed_of}
+use Rattle.aeth_schedule.specs.{declared.timed.Timed.Timed}
 use Rattle.aeth_tables.proofs.ListLaws.{has_place}
-use Rattle.aeth_stimuli.specs.Loaded.{loaded_components}
-use Rattle.aeth_stimuli.specs.Stimuli.{stimuli_of}
-use Rattle.aeth_stimuli.proofs.ChipBegins.{interface-part}
-use Rattle.aeth_stimuli.proofs.EventsOfSessions.{event-is}
-use Rattle.aeth_stimuli.proofs.FirstEvents.{loaded-are}
-use Rattle.aeth_stimuli.proofs.OverChips.{over}
-use Rattle.aeth_stimuli.proofs.Pairs.{pairs-map}
-use Rattle.aeth_stimuli.proofs.RunEvents.{caused, timed-precede}
-use Rattle.aeth_stimuli.proofs.SwitchOrder.{Precedes}
+use Rattle.aeth_stimuli.specs.{Loaded.loaded_components, Stimuli.stimuli_of}
+use Rattle.aeth_stimuli.proofs.{ChipBegins.interface-part, EventsOfSessions.event-is}
+use Rattle.aeth_stimuli.proofs.{FirstEvents.loaded-are, OverChips.over, Pairs.pairs-map}
+use Rattle.aeth_stimuli.proofs.{RunEvents.caused, RunEvents.timed-precede, SwitchOrder.Precedes}
 
 -- There are rooms for all queues of a chip.
 pub rooms-counted : (inputs : Inputs)

@@ -1,24 +1,20 @@
 -- The sessions of a run: what holds of all that lines give holds of each, and they go one after the
 -- other.
-use Rattle.std.proofs.Common.{◌≡◌, ◌≤◌, ◌<◌, ◌++◌, ℕ, All, List, [], ◌∷◌, Option, Some}
-use Rattle.std.proofs.Common.{None, arith, length, map, not, refl}
-use Rattle.std.specs.Prelude.{Ok, nat_lt}
+use Rattle.std.proofs.Common.{◌≡◌, ◌≤◌, ◌<◌, ◌++◌, ℕ, All, List, [], ◌∷◌, Option, Some, None, arith}
+use Rattle.std.proofs.Common.{length, map, not, refl, Ok, nat_lt}
+use Rattle.std.proofs.lemmas.List.Elements.{All-append, All-cons, All-filter, All-head, All-map}
+use Rattle.std.proofs.lemmas.List.Elements.{All-nil, All-tail, All-weaker}
 use Rattle.std.specs.List.Sorted.{IsNonDecreasingBy}
-use Rattle.std.proofs.lemmas.List.Elements.{All-append, All-cons, All-filter, All-head, All-map, All-nil}
-use Rattle.std.proofs.lemmas.List.Elements.{All-tail, All-weaker}
 use Rattle.aeth_group.specs.Members.{GroupsData, groups_of, is_kept}
-use Rattle.aeth_trace.specs.Spans.{SpanData}
-use Rattle.aeth_trace.specs.Switches.{are_apart}
-use Rattle.aeth_trace.specs.declared.switches.SwitchRow.{SwitchRow}
+use Rattle.aeth_trace.specs.{Spans.SpanData, Switches.are_apart}
+use Rattle.aeth_trace.specs.{declared.switches.SwitchRow.SwitchRow}
 use Rattle.aeth_trace.proofs.OrderLemmas.{rise-cons, rise-filter}
 use Rattle.aeth_report.specs.Sessions.{Switch, go_by, go_of}
-use Rattle.aeth_report.proofs.SessionMeetings.{AreInTime, in_time}
-use Rattle.aeth_report.proofs.Stays.{switch_of}
+use Rattle.aeth_report.proofs.{SessionMeetings.AreInTime, SessionMeetings.in_time, Stays.switch_of}
 use Rattle.aeth_accepted.specs.Inputs.{AreAccepted, Inputs, run_of}
 use Rattle.aeth_schedule.specs.Goings.{going_by, goings_behind, goings_from, goings_of}
 use Rattle.aeth_schedule.specs.Lines.{all_lines, changed_lines, lines_at}
-use Rattle.aeth_schedule.specs.declared.going.Going.{Going}
-use Rattle.aeth_schedule.specs.declared.lines.Line.{Line}
+use Rattle.aeth_schedule.specs.declared.{going.Going.Going, lines.Line.Line}
 
 -- ---- lists whose numbers don't fall
 

@@ -1,21 +1,16 @@
 -- What is written before the first cycle is of the sessions that are in use then.
-use Rattle.std.proofs.Common.{◌≡◌, ◌∙◌, ◌+◌, ℕ, List, [], ◌∷◌, Contains}
-use Rattle.std.proofs.Common.{Some, ap, arith, inl, inr, map, subst, sym}
+use Rattle.std.proofs.Common.{◌≡◌, ◌∙◌, ◌+◌, ℕ, List, [], ◌∷◌, Contains, Some, ap, arith, inl, inr}
+use Rattle.std.proofs.Common.{map, subst, sym}
+use Rattle.std.proofs.lemmas.{List.Concat.flat_map-cons, Option.same_Some}
 use Rattle.std.specs.List.{AllPairs, flat_map}
-use Rattle.std.proofs.lemmas.List.Concat.{flat_map-cons}
-use Rattle.std.proofs.lemmas.Option.{same_Some}
-use Rattle.aeth_base.proofs.Members.{Contains-cases, Contains-here}
-use Rattle.aeth_base.proofs.Members.{Contains-there, flat_map-Contains, map-Contains}
+use Rattle.aeth_base.proofs.Members.{Contains-cases, Contains-here, Contains-there}
+use Rattle.aeth_base.proofs.Members.{flat_map-Contains, map-Contains}
 use Rattle.aeth_slots.specs.SlotSet.{Ascends}
-use Rattle.aeth_ni.specs.Program.{opening_writes}
-use Rattle.aeth_ni.specs.declared.row.ChannelRow.{ChannelRow}
-use Rattle.aeth_ni.specs.declared.write.Write.{Write}
-use Rattle.aeth_ni.specs.declared.write.Write.TheVariants.{SetSlot}
-use Rattle.aeth_reconf.specs.Rows.{Meets}
-use Rattle.aeth_reconf.specs.Windows.{set_route}
-use Rattle.aeth_components.specs.Switching.{SlotWrite}
-use Rattle.aeth_components.specs.declared.event.Event.TheVariants.{Change}
-use Rattle.aeth_components.specs.declared.lane.ChannelEnd.{ChannelEnd}
+use Rattle.aeth_ni.specs.{Program.opening_writes, declared.row.ChannelRow.ChannelRow}
+use Rattle.aeth_ni.specs.{declared.write.Write.Write, declared.write.Write.TheVariants.SetSlot}
+use Rattle.aeth_reconf.specs.{Rows.Meets, Windows.set_route}
+use Rattle.aeth_components.specs.{Switching.SlotWrite, declared.event.Event.TheVariants.Change}
+use Rattle.aeth_components.specs.{declared.lane.ChannelEnd.ChannelEnd}
 use Rattle.aeth_tables.proofs.ListLaws.{all_has, place_in}
 use Rattle.aeth_stimuli.proofs.Pairs.{pairs-append, pairs-cons, pairs-head, pairs-none, pairs-tail}
 use Rattle.aeth_stimuli.proofs.SwitchOrder.{ArePlacedApart}

@@ -1,19 +1,15 @@
 -- A session accepts no more of the words that are offered within a run than its channel has in its
 -- cycles; and rows of traces in order.
 use Rattle.std.proofs.Common.{◌≡◌, ◌≤◌, ◌<◌, ◌&&◌, ◌∙◌, ℕ, suc, Bool, List, [], ◌∷◌, ap, arith}
-use Rattle.std.proofs.Common.{count_by, false, filter, inl, inr, length, map, true}
-use Rattle.std.specs.Prelude.{nat_lt}
+use Rattle.std.proofs.Common.{count_by, false, filter, inl, inr, length, map, true, nat_lt}
+use Rattle.std.proofs.lemmas.{Bool.and_parts, Bool.cases_Bool, List.get_or-map, List.length-map}
 use Rattle.std.specs.List.Sorted.{IsNonDecreasingBy}
-use Rattle.std.proofs.lemmas.Bool.{and_parts, cases_Bool}
-use Rattle.std.proofs.lemmas.List.{get_or-map, length-map}
 use Rattle.aeth_base.proofs.Lists.{count_by-no, count_by-yes}
-use Rattle.aeth_trace.specs.Channels.{is_channel}
-use Rattle.aeth_trace.specs.Words.{words_on}
-use Rattle.aeth_trace.specs.declared.words.WordRow.{WordRow}
+use Rattle.aeth_base.proofs.Filters.{filter-no, filter-yes}
+use Rattle.aeth_trace.specs.{Channels.is_channel, Words.words_on, declared.words.WordRow.WordRow}
 use Rattle.aeth_report.specs.Flows.{is_within}
 use Rattle.aeth_schedule.specs.declared.going.Going.{Going}
 use Rattle.aeth_stimuli.specs.Stimuli.{is_offered_in, offer_of}
-use Rattle.aeth_base.proofs.Filters.{filter-no, filter-yes}
 use Rattle.aeth_stimuli.proofs.ChannelLists.{same_numbers}
 
 -- Mapped items are in order where their numbers are.

@@ -1,42 +1,31 @@
 -- Sessions send from the interfaces of the chip, and queues have room for what lands there.
 use Rattle.std.proofs.Common.{◌≡◌, ◌≤◌, ◌<◌, ◌∙◌, ◌+◌, ◌*◌, ◌-◌, ℕ, true, List, [], ◌∷◌, Contains}
 use Rattle.std.proofs.Common.{ap, arith, drop, filter, get_or, inl, inr, length, map, subst, sym}
-use Rattle.std.specs.Prelude.{◌==◌, flat_map, slice_range}
-use Rattle.std.specs.List.{range_with_len}
-use Rattle.std.proofs.lemmas.Bool.{eq-eqb}
-use Rattle.std.proofs.lemmas.List.{get_or-drop, get_or-take}
+use Rattle.std.proofs.Common.{◌==◌, flat_map, slice_range, eq-eqb, get_or-drop, get_or-take}
 use Rattle.std.proofs.lemmas.List.FromFn.{get_or-map-range_with_len}
-use Rattle.aeth_base.specs.declared.ids.Channel.{Channel}
-use Rattle.aeth_base.specs.declared.ids.Side.{Side}
-use Rattle.aeth_base.specs.declared.ids.Side.TheVariants.{Back, Fwd}
-use Rattle.aeth_base.specs.declared.ids.UseId.{UseId}
-use Rattle.aeth_base.proofs.Members.{Contains-cases, Contains-filter, Contains-flat_map, Contains-here}
-use Rattle.aeth_base.proofs.Members.{Contains-map, Contains-nil, Contains-there}
+use Rattle.std.specs.List.{range_with_len}
+use Rattle.aeth_base.specs.declared.ids.{Channel.Channel, Side.Side, Side.TheVariants.Back}
+use Rattle.aeth_base.specs.declared.ids.{Side.TheVariants.Fwd, UseId.UseId}
+use Rattle.aeth_base.proofs.Members.{Contains-cases, Contains-filter, Contains-flat_map}
+use Rattle.aeth_base.proofs.Members.{Contains-here, Contains-map, Contains-nil, Contains-there}
 use Rattle.aeth_base.proofs.Ranges.{Contains-range}
 use Rattle.aeth_server.specs.declared.shape.ChannelShape.{ChannelShape}
 use Rattle.aeth_group.specs.Members.{group_at, groups_of, has_at}
 use Rattle.aeth_group.proofs.MemberLemmas.{connections-groups_of}
-use Rattle.aeth_ni.specs.Limits.{queues_of_interface}
-use Rattle.aeth_ni.specs.declared.row.ChannelRow.{ChannelRow}
+use Rattle.aeth_ni.specs.{Limits.queues_of_interface, declared.row.ChannelRow.ChannelRow}
 use Rattle.aeth_report.specs.Channels.{channels_with, opposite}
-use Rattle.aeth_report.proofs.OneFlit.{opposite-opposite}
-use Rattle.aeth_report.proofs.Stays.{AreKnown, IsStayOf, stays_of-is}
-use Rattle.aeth_report.proofs.StaysAlone.{at-Contains}
-use Rattle.aeth_tables.specs.Promises.{HasNumbers}
-use Rattle.aeth_tables.specs.TableText.{IsRowOf}
-use Rattle.aeth_tables.specs.Tables.{tables_of}
-use Rattle.aeth_tables.proofs.ListLaws.{all_has}
-use Rattle.aeth_tables.proofs.PromiseLaws.{are_printable}
+use Rattle.aeth_report.proofs.{OneFlit.opposite-opposite, Stays.AreKnown, Stays.IsStayOf}
+use Rattle.aeth_report.proofs.{Stays.stays_of-is, StaysAlone.at-Contains}
+use Rattle.aeth_tables.specs.{Promises.HasNumbers, TableText.IsRowOf, Tables.tables_of}
+use Rattle.aeth_tables.proofs.{ListLaws.all_has, PromiseLaws.are_printable}
 use Rattle.aeth_accepted.specs.Inputs.{AreAccepted, Inputs, design_of, row_at, run_of}
-use Rattle.aeth_accepted.proofs.GivenGrants.{connection-known, use-known}
-use Rattle.aeth_accepted.proofs.TableFlows.{rows-of_tables}
+use Rattle.aeth_accepted.proofs.{GivenGrants.connection-known, GivenGrants.use-known}
+use Rattle.aeth_accepted.proofs.{TableFlows.rows-of_tables, SessionRows.is_row}
+use Rattle.aeth_accepted.proofs.{SessionRows.promised, SoundRuns.greatest-above}
 use Rattle.aeth_refinement.specs.Fabric.{server_at}
 use Rattle.aeth_fabric.specs.Fabric.{Placed, fabric_of, opposite_in, placed_at, placed_of, row_in}
 use Rattle.aeth_fabric.specs.Fabric.{stays_in}
-use Rattle.aeth_fabric.proofs.Numbers.{opposite-is, placed-there}
-use Rattle.aeth_accepted.proofs.SessionRows.{is_row, promised}
-use Rattle.aeth_accepted.proofs.SoundRuns.{greatest-above}
-use Rattle.aeth_fabric.proofs.SessionRows.{numbers}
+use Rattle.aeth_fabric.proofs.{Numbers.opposite-is, Numbers.placed-there, SessionRows.numbers}
 use Rattle.aeth_schedule.specs.Lines.{all_lines, line_with, lines_of, lines_with}
 use Rattle.aeth_schedule.specs.Rooms.{queue_number, room_at, rooms_of}
 use Rattle.aeth_schedule.specs.declared.lines.Line.{Line}

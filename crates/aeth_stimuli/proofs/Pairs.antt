@@ -1,20 +1,16 @@
 -- What holds of each item of a list and each later one.
 use Rattle.std.proofs.Common.{◌≡◌, ◌<◌, ◌++◌, ℕ, suc, Bool, List, [], ◌∷◌, Contains, filter, get_or}
-use Rattle.std.proofs.Common.{inl, inr, map}
-use Rattle.std.proofs.Common.{arith, ap, refl, subst, sym, true}
-use Rattle.std.specs.Prelude.{flat_map}
+use Rattle.std.proofs.Common.{inl, inr, map, arith, ap, refl, subst, sym, true, flat_map}
+use Rattle.std.proofs.lemmas.{Bool.cases_Bool, List.Elements.Contains-append_cases}
+use Rattle.std.proofs.lemmas.{List.Kept.AllPairs-cons, List.Kept.AllPairs-filter}
+use Rattle.std.proofs.lemmas.{Option.slice_get-get_or}
 use Rattle.std.specs.List.{All, AllPairs, range_with_len}
-use Rattle.std.proofs.lemmas.Bool.{cases_Bool}
-use Rattle.std.proofs.lemmas.List.Elements.{Contains-append_cases}
-use Rattle.std.proofs.lemmas.List.Kept.{AllPairs-cons, AllPairs-filter}
-use Rattle.std.proofs.lemmas.Option.{slice_get-get_or}
 use Rattle.aeth_base.specs.declared.ids.Channel.{Channel}
 use Rattle.aeth_base.specs.declared.ids.Side.TheVariants.{Back, Fwd}
 use Rattle.aeth_base.proofs.Members.{Contains-here, Contains-there, filter-Contains, map-Contains}
 use Rattle.aeth_group.specs.Members.{GroupsData}
 use Rattle.aeth_report.specs.Channels.{channels_of, channels_with}
-use Rattle.aeth_report.proofs.ChannelLemmas.{channels_of-known}
-use Rattle.aeth_report.proofs.FlowPlaces.{channels_of-once}
+use Rattle.aeth_report.proofs.{ChannelLemmas.channels_of-known, FlowPlaces.channels_of-once}
 use Rattle.aeth_reconf.specs.Rows.{channels_that}
 use Rattle.aeth_tables.proofs.ListLaws.{all_has, has_place}
 

@@ -1,37 +1,30 @@
 -- The events of a run are those of its switches, in the order of cycles, and apart in each.
-use Rattle.std.proofs.Common.{◌≡◌, ◌≤◌, ◌<◌, ℕ, true, not, List, [], ◌∷◌, Contains}
-use Rattle.std.proofs.Common.{arith, inl, inr, length, subst, sym}
-use Rattle.std.specs.Prelude.{nat_lt, Ok}
+use Rattle.std.proofs.Common.{◌≡◌, ◌≤◌, ◌<◌, ℕ, true, not, List, [], ◌∷◌, Contains, arith, inl, inr}
+use Rattle.std.proofs.Common.{length, subst, sym, nat_lt, Ok, lt-ltb}
+use Rattle.std.proofs.lemmas.Bool.{and_parts}
+use Rattle.std.proofs.lemmas.List.{Concat.flat_map-cons, Elements.All-head, Elements.All-tail}
+use Rattle.std.proofs.lemmas.List.{Elements.Contains-append_cases, Kept.AllPairs-filter}
 use Rattle.std.specs.List.{AllPairs, flat_map}
-use Rattle.std.proofs.lemmas.Bool.{and_parts, lt-ltb}
-use Rattle.std.proofs.lemmas.List.Concat.{flat_map-cons}
-use Rattle.std.proofs.lemmas.List.Elements.{All-head, All-tail, Contains-append_cases}
-use Rattle.std.proofs.lemmas.List.Kept.{AllPairs-filter}
 use Rattle.aeth_base.specs.declared.ids.Channel.{Channel}
-use Rattle.aeth_base.proofs.Members.{Contains-filter, Contains-flat_map, Contains-nil, filter-Contains}
-use Rattle.aeth_base.proofs.Members.{flat_map-Contains, map-Contains}
+use Rattle.aeth_base.proofs.Members.{Contains-filter, Contains-flat_map, Contains-nil}
+use Rattle.aeth_base.proofs.Members.{filter-Contains, flat_map-Contains, map-Contains}
 use Rattle.aeth_server.specs.Shape.{IsGranted}
 use Rattle.aeth_group.specs.Members.{GroupsData, group_at, groups_of, has_at, is_kept}
 use Rattle.aeth_ni.specs.declared.row.ChannelRow.{ChannelRow}
-use Rattle.aeth_trace.specs.Switches.{are_apart}
-use Rattle.aeth_trace.specs.declared.switches.SwitchRow.{SwitchRow}
-use Rattle.aeth_report.specs.Design.{shape_at}
-use Rattle.aeth_report.specs.Sessions.{Switch, closes, go_by}
-use Rattle.aeth_report.specs.Sound.{IsSound}
+use Rattle.aeth_trace.specs.{Switches.are_apart, declared.switches.SwitchRow.SwitchRow}
+use Rattle.aeth_report.specs.{Design.shape_at, Sessions.Switch, Sessions.closes, Sessions.go_by}
+use Rattle.aeth_report.specs.{Sound.IsSound}
 use Rattle.aeth_report.proofs.SessionMeetings.{AreInTime, in_time}
 use Rattle.aeth_report.proofs.Stays.{AreKnown, IsKnown, switch_of}
-use Rattle.aeth_reconf.specs.Rows.{RowOf, channels_that}
-use Rattle.aeth_reconf.specs.Windows.{AreWritable}
+use Rattle.aeth_reconf.specs.{Rows.RowOf, Rows.channels_that, Windows.AreWritable}
 use Rattle.aeth_accepted.specs.Inputs.{AreAccepted, Inputs, design_of, row_at, run_of}
-use Rattle.aeth_accepted.proofs.SoundRuns.{AreSpans, is_sound}
-use Rattle.aeth_accepted.proofs.TableFlows.{shape-granted}
-use Rattle.aeth_accepted.proofs.ApartRows.{all_apart}
-use Rattle.aeth_accepted.proofs.SessionRows.{known, one}
+use Rattle.aeth_accepted.proofs.{SoundRuns.AreSpans, SoundRuns.is_sound, TableFlows.shape-granted}
+use Rattle.aeth_accepted.proofs.{ApartRows.all_apart, SessionRows.known, SessionRows.one}
 use Rattle.aeth_fabric.proofs.WritableRuns.{writable}
 use Rattle.aeth_schedule.specs.Switching.{events_by, later_switches, switches_from, timed_of}
 use Rattle.aeth_schedule.specs.declared.timed.Timed.{Timed}
-use Rattle.aeth_stimuli.proofs.Pairs.{Differ, channel-passes, channels-differ, pairs-append, pairs-map}
-use Rattle.aeth_stimuli.proofs.Pairs.{pairs-none}
+use Rattle.aeth_stimuli.proofs.Pairs.{Differ, channel-passes, channels-differ, pairs-append}
+use Rattle.aeth_stimuli.proofs.Pairs.{pairs-map, pairs-none}
 use Rattle.aeth_stimuli.proofs.SwitchOrder.{HaveOwn, IsFit, Precedes, event-while, events-precede}
 use Rattle.aeth_stimuli.proofs.SwitchOrder.{precedes-early}
 

@@ -1,9 +1,8 @@
 -- Each halt, finish and write of a session below the end of the run is among the events of its cycle.
-use Rattle.std.proofs.Common.{◌≡◌, ◌≤◌, ◌<◌, ◌∙◌, ◌+◌, ℕ, true, Contains, None, Option, Some, ap, arith}
-use Rattle.std.proofs.Common.{length, refl, slice_get, subst}
-use Rattle.std.specs.Prelude.{IfSome, IsTrue, option_map, sum_by, unwrap_or}
-use Rattle.aeth_base.specs.declared.ids.Channel.{Channel}
-use Rattle.aeth_base.proofs.Members.{Contains-map}
+use Rattle.std.proofs.Common.{◌≡◌, ◌≤◌, ◌<◌, ◌∙◌, ◌+◌, ℕ, true, Contains, None, Option, Some, ap}
+use Rattle.std.proofs.Common.{arith, length, refl, slice_get, subst, IfSome, IsTrue, option_map}
+use Rattle.std.proofs.Common.{sum_by, unwrap_or}
+use Rattle.aeth_base.{specs.declared.ids.Channel.Channel, proofs.Members.Contains-map}
 use Rattle.aeth_group.specs.Members.{GroupsData, group_at, groups_of, has_at}
 use Rattle.aeth_ni.specs.Program.{write_count}
 use Rattle.aeth_ni.specs.declared.row.ChannelRow.{ChannelRow}
@@ -11,8 +10,7 @@ use Rattle.aeth_ni.specs.declared.write.Write.{Write}
 use Rattle.aeth_ni.specs.declared.write.Write.TheVariants.{ClearRoute, ClearSlot, SetRoute, SetSlot}
 use Rattle.aeth_trace.specs.Spans.{SpanData}
 use Rattle.aeth_report.specs.Sessions.{Switch, close_by, closes}
-use Rattle.aeth_report.proofs.Stays.{IsClosedBy}
-use Rattle.aeth_report.proofs.StaysAlone.{at-Contains}
+use Rattle.aeth_report.proofs.{Stays.IsClosedBy, StaysAlone.at-Contains}
 use Rattle.aeth_reconf.specs.Rows.{RowOf, channels_that, rows_closing, rows_opening, switch_program}
 use Rattle.aeth_reconf.specs.Windows.{IsClosed, IsOpened, closing_ahead, freed_of, opening_ahead}
 use Rattle.aeth_reconf.specs.Windows.{set_of, set_route, slot_set_of}
@@ -22,15 +20,14 @@ use Rattle.aeth_accepted.specs.Inputs.{AreAccepted, Inputs, design_of, row_at, r
 use Rattle.aeth_components.specs.declared.event.Event.{Event}
 use Rattle.aeth_components.specs.declared.event.Event.TheVariants.{Change, Finish, Halt}
 use Rattle.aeth_refinement.specs.Fabric.{flow_at, has_slot, server_at}
-use Rattle.aeth_refinement.specs.Switches.{finish_of, freed_of as freed_at, halt_of, set_of as set_at}
+use Rattle.aeth_refinement.specs.Switches.{finish_of, freed_of as freed_at, halt_of}
+use Rattle.aeth_refinement.specs.Switches.{set_of as set_at}
 use Rattle.aeth_fabric.specs.Fabric.{Placed, cleared_by, fabric_of, freed_by, placed_at, placed_of}
 use Rattle.aeth_fabric.specs.Fabric.{row_in, slot_at, slot_freed_in, stays_in}
-use Rattle.aeth_fabric.proofs.ApartWires.{past, slot_place}
-use Rattle.aeth_fabric.proofs.Numbers.{placed-there}
+use Rattle.aeth_fabric.proofs.{ApartWires.past, ApartWires.slot_place, Numbers.placed-there}
 use Rattle.aeth_invariant.specs.Events.{ni_of, queue_end}
-use Rattle.aeth_schedule.specs.Lines.{end_of}
-use Rattle.aeth_schedule.specs.Switching.{events_by, later_switches, timed_of}
-use Rattle.aeth_schedule.specs.declared.timed.Timed.{Timed}
+use Rattle.aeth_schedule.specs.{Lines.end_of, Switching.events_by, Switching.later_switches}
+use Rattle.aeth_schedule.specs.{Switching.timed_of, declared.timed.Timed.Timed}
 use Rattle.aeth_stimuli.proofs.OverChips.{stay_is}
 use Rattle.aeth_stimuli.proofs.RunEvents.{happens}
 use Rattle.aeth_stimuli.proofs.StaySwitches.{IsAmong, IsOpenedAmong, loaded_use, stay-among}

@@ -1,17 +1,15 @@
 -- The sessions of a channel that go within a run are those of its connection, one by one.
 use Rattle.std.proofs.Common.{◌≡◌, ◌<◌, ◌++◌, ◌∙◌, ℕ, All, Bool, true, false, List, [], ◌∷◌, Option}
-use Rattle.std.proofs.Common.{Some}
-use Rattle.std.proofs.Common.{None, ap, arith, filter, length, map, refl, sym}
-use Rattle.std.specs.Prelude.{nat_lt}
-use Rattle.std.proofs.lemmas.List.{map-append}
-use Rattle.std.proofs.lemmas.List.Elements.{All-head, All-tail, filter-append}
-use Rattle.std.proofs.lemmas.Simd.{map-map}
+use Rattle.std.proofs.Common.{Some, None, ap, arith, filter, length, map, refl, sym, nat_lt, ◌-◌}
+use Rattle.std.proofs.Common.{◌+◌, min}
+use Rattle.std.proofs.lemmas.{List.map-append, List.Elements.All-head, List.Elements.All-tail}
+use Rattle.std.proofs.lemmas.{List.Elements.filter-append, Simd.map-map}
 use Rattle.aeth_base.specs.declared.ids.Channel.{Channel}
+use Rattle.aeth_base.proofs.Filters.{filter-map, filter-swap}
 use Rattle.aeth_group.specs.Members.{GroupsData, group_at, groups_of, has_at}
 use Rattle.aeth_group.proofs.MemberLemmas.{connections-groups_of}
-use Rattle.aeth_trace.specs.Channels.{channel_number}
-use Rattle.aeth_trace.specs.Spans.{SpanData}
-use Rattle.aeth_trace.specs.declared.switches.SwitchRow.{SwitchRow}
+use Rattle.aeth_trace.specs.{Channels.channel_number, Spans.SpanData}
+use Rattle.aeth_trace.specs.{declared.switches.SwitchRow.SwitchRow}
 use Rattle.aeth_report.specs.declared.session.Session.{Session}
 use Rattle.aeth_report.specs.Flows.{close_at, sessions_in}
 use Rattle.aeth_report.specs.Sessions.{Stay, Switch, go_of, opens, session_of, stay_with}
@@ -19,19 +17,14 @@ use Rattle.aeth_report.specs.Sessions.{stays_behind, stays_of}
 use Rattle.aeth_report.proofs.Stays.{opened, switch_of}
 use Rattle.aeth_reconf.specs.Rows.{channels_that}
 use Rattle.aeth_accepted.specs.Inputs.{AreAccepted, Inputs, run_of}
-use Rattle.aeth_schedule.specs.Goings.{going_by, goings_behind, goings_from, goings_of}
-use Rattle.aeth_schedule.specs.Goings.{session_by}
+use Rattle.aeth_schedule.specs.Goings.{going_by, goings_behind, goings_from, goings_of, session_by}
 use Rattle.aeth_schedule.specs.Lines.{all_lines, changed_lines, end_of, lines_at}
 use Rattle.aeth_schedule.specs.Values.{before_of, start_of}
-use Rattle.aeth_schedule.specs.declared.going.Going.{Going}
-use Rattle.aeth_schedule.specs.declared.lines.Line.{Line}
-use Rattle.aeth_stimuli.specs.Stimuli.{goings_over}
+use Rattle.aeth_schedule.specs.declared.{going.Going.Going, lines.Line.Line}
+use Rattle.aeth_stimuli.specs.Stimuli.{goings_over, is_over}
 use Rattle.aeth_stimuli.specs.Sessions.{SessionGoing, as_going, going_of}
-use Rattle.aeth_stimuli.specs.Stimuli.{is_over}
-use Rattle.aeth_base.proofs.Filters.{filter-map, filter-swap}
 use Rattle.aeth_stimuli.proofs.ChannelLists.{is_it, one-of, one_where, one_where-map}
 use Rattle.aeth_stimuli.proofs.UseLines.{ShapedLine, changed-shaped, line_of, lines-shaped, shaped}
-use Rattle.std.specs.Prelude.{◌-◌, ◌+◌, min}
 
 module _ (inputs : Inputs) where
   abbrev groups : GroupsData

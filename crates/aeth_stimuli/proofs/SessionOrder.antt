@@ -1,21 +1,17 @@
 -- The sessions of a connection come one after the other: each has gone and is finished before a later
 -- one goes.
 use Rattle.std.proofs.Common.{◌≡◌, ◌≤◌, ◌<◌, ◌∙◌, ℕ, List, [], ◌∷◌, Option, Some, None, ap, arith}
-use Rattle.std.proofs.Common.{length, slice_get, subst, sym}
-use Rattle.std.specs.Prelude.{IfSome, Ok, option_map}
+use Rattle.std.proofs.Common.{length, slice_get, subst, sym, IfSome, Ok, option_map}
 use Rattle.std.proofs.lemmas.List.Elements.{All-head, All-tail}
 use Rattle.aeth_group.specs.Members.{GroupsData, groups_of}
-use Rattle.aeth_trace.specs.Spans.{SpanData}
-use Rattle.aeth_trace.specs.Switches.{are_apart}
-use Rattle.aeth_trace.specs.declared.switches.SwitchRow.{SwitchRow}
-use Rattle.aeth_report.specs.declared.session.Session.{Session}
-use Rattle.aeth_report.specs.Flows.{sessions_in}
-use Rattle.aeth_report.specs.Sessions.{Stay, Switch, close_by, go_of, session_of, sessions_of}
-use Rattle.aeth_report.specs.Sessions.{stays_of}
-use Rattle.aeth_report.proofs.SessionMeetings.{in_time, mapped_at}
-use Rattle.aeth_report.proofs.SessionOrder.{stays-after}
-use Rattle.aeth_report.proofs.Stays.{AreKnown, IsKnown}
-use Rattle.aeth_report.proofs.StaysAlone.{at-Contains}
+use Rattle.aeth_trace.specs.{Spans.SpanData, Switches.are_apart}
+use Rattle.aeth_trace.specs.{declared.switches.SwitchRow.SwitchRow}
+use Rattle.aeth_report.specs.{declared.session.Session.Session, Flows.sessions_in, Sessions.Stay}
+use Rattle.aeth_report.specs.{Sessions.Switch, Sessions.close_by, Sessions.go_of}
+use Rattle.aeth_report.specs.{Sessions.session_of, Sessions.sessions_of, Sessions.stays_of}
+use Rattle.aeth_report.proofs.{SessionMeetings.in_time, SessionMeetings.mapped_at}
+use Rattle.aeth_report.proofs.{SessionOrder.stays-after, Stays.AreKnown, Stays.IsKnown}
+use Rattle.aeth_report.proofs.{StaysAlone.at-Contains}
 use Rattle.aeth_reconf.specs.Windows.{clears_from}
 use Rattle.aeth_reconf.proofs.OneWritten.{clears-between, rising}
 use Rattle.aeth_reconf.proofs.StayTurns.{opened_at, stays-turn}

@@ -1,18 +1,16 @@
 -- Stays and the switches of a run: each stay is opened and closed by switches of it, and each switch
 -- that opens or closes a connection does so with a stay.
 use Rattle.std.proofs.Common.{◌≡◌, ◌∙◌, ℕ, List, [], ◌∷◌, Contains, Option, Some, None, refl, sym}
-use Rattle.std.proofs.Common.{ap, subst, inl, inr}
-use Rattle.std.specs.Prelude.{IfSome, IsTrue, Ok, not}
+use Rattle.std.proofs.Common.{ap, subst, inl, inr, IfSome, IsTrue, Ok, not}
 use Rattle.std.proofs.lemmas.Bool.{and_from, and_parts, both_ways, cases_Bool, not_from_false}
 use Rattle.std.proofs.lemmas.Bool.{not_from_true}
 use Rattle.aeth_base.proofs.Members.{Contains-cases, Contains-here, Contains-nil, Contains-there}
 use Rattle.aeth_group.specs.Members.{GroupsData, group_at, has_at, is_kept}
-use Rattle.aeth_trace.specs.Switches.{is_first_at_zero}
-use Rattle.aeth_trace.specs.declared.switches.SwitchRow.{SwitchRow}
+use Rattle.aeth_trace.specs.{Switches.is_first_at_zero, declared.switches.SwitchRow.SwitchRow}
 use Rattle.aeth_report.specs.Sessions.{Stay, Switch, closes, closing_in, opens, stays_behind}
 use Rattle.aeth_report.specs.Sessions.{stays_from, stays_of}
-use Rattle.aeth_report.proofs.Stays.{kept-is, opened, stay_with-cases, stay_with-here, stay_with-there}
-use Rattle.aeth_report.proofs.Stays.{switch_of}
+use Rattle.aeth_report.proofs.Stays.{kept-is, opened, stay_with-cases, stay_with-here}
+use Rattle.aeth_report.proofs.Stays.{stay_with-there, switch_of}
 use Rattle.aeth_schedule.specs.Switching.{later_switches, switches_from}
 
 -- The use case that is loaded before all switches.

@@ -1,45 +1,32 @@
 -- What accepted inputs give fits the components of their chip.
-use Rattle.std.proofs.Common.{◌≤◌, ◌<◌, ◌+◌, ◌*◌, ℕ, All, List, Option, ap, arith, count_by}
-use Rattle.std.proofs.Common.{filter, length, subst, sym}
-use Rattle.std.specs.Prelude.{nat_lt}
-use Rattle.std.specs.List.Sorted.{IsNonDecreasingBy}
+use Rattle.std.proofs.Common.{◌≤◌, ◌<◌, ◌+◌, ◌*◌, ℕ, All, List, Option, ap, arith, count_by, filter}
+use Rattle.std.proofs.Common.{length, subst, sym, nat_lt}
 use Rattle.std.proofs.lemmas.List.{length-map}
 use Rattle.std.proofs.lemmas.List.Elements.{All-filter, All-map, All-weaker}
-use Rattle.aeth_base.specs.declared.ids.Side.{Side}
-use Rattle.aeth_base.specs.declared.ids.Side.TheVariants.{Back, Fwd}
+use Rattle.std.specs.List.Sorted.{IsNonDecreasingBy}
+use Rattle.aeth_base.specs.declared.ids.Side.{Side, TheVariants.Back, TheVariants.Fwd}
 use Rattle.aeth_base.specs.declared.ids.UseId.{UseId}
 use Rattle.aeth_group.specs.Members.{groups_of}
 use Rattle.aeth_ni.specs.declared.row.ChannelRow.{ChannelRow}
-use Rattle.aeth_trace.specs.Channels.{channel_number}
-use Rattle.aeth_trace.specs.declared.receivers.PullRow.{PullRow}
-use Rattle.aeth_trace.specs.declared.switches.SwitchRow.{SwitchRow}
-use Rattle.aeth_trace.specs.declared.words.WordRow.{WordRow}
+use Rattle.aeth_trace.specs.{Channels.channel_number, declared.receivers.PullRow.PullRow}
+use Rattle.aeth_trace.specs.{declared.switches.SwitchRow.SwitchRow, declared.words.WordRow.WordRow}
 use Rattle.aeth_trace.proofs.OrderLemmas.{rise-filter}
 use Rattle.aeth_report.specs.Sessions.{Switch}
-use Rattle.aeth_tables.specs.Promises.{HasNumbers}
-use Rattle.aeth_tables.specs.TableText.{IsRowOf}
-use Rattle.aeth_tables.specs.Tables.{tables_of}
+use Rattle.aeth_tables.specs.{Promises.HasNumbers, TableText.IsRowOf, Tables.tables_of}
 use Rattle.aeth_tables.proofs.PromiseLaws.{keep_promises}
-use Rattle.aeth_components.specs.Components.{frames_of}
-use Rattle.aeth_components.specs.Frames.{Frame, frame_of}
-use Rattle.aeth_components.specs.Lanes.{IsEnd, IsLane}
-use Rattle.aeth_components.specs.Making.{new_parts}
-use Rattle.aeth_components.specs.declared.making.RouterKind.TheVariants.{ByHeader}
-use Rattle.aeth_components.proofs.MadeLemmas.{length-new_parts}
-use Rattle.aeth_components.proofs.PartLemmas.{frames-switched}
+use Rattle.aeth_components.specs.{Components.frames_of, Frames.Frame, Frames.frame_of, Lanes.IsEnd}
+use Rattle.aeth_components.specs.{Lanes.IsLane, Making.new_parts}
+use Rattle.aeth_components.specs.{declared.making.RouterKind.TheVariants.ByHeader}
+use Rattle.aeth_components.proofs.{MadeLemmas.length-new_parts, PartLemmas.frames-switched}
 use Rattle.aeth_accepted.specs.Inputs.{AreAccepted, Inputs}
-use Rattle.aeth_schedule.specs.Goings.{goings_of}
-use Rattle.aeth_schedule.specs.Lines.{all_lines, end_of, lines_at}
-use Rattle.aeth_schedule.specs.Rooms.{rooms_of}
-use Rattle.aeth_schedule.specs.Switching.{loaded_of}
-use Rattle.aeth_schedule.specs.Values.{values_of}
-use Rattle.aeth_schedule.specs.declared.lines.Line.{Line}
+use Rattle.aeth_schedule.specs.{Goings.goings_of, Lines.all_lines, Lines.end_of, Lines.lines_at}
+use Rattle.aeth_schedule.specs.{Rooms.rooms_of, Switching.loaded_of, Values.values_of}
+use Rattle.aeth_schedule.specs.{declared.lines.Line.Line}
 use Rattle.aeth_schedule.proofs.LineLemmas.{line-at, lines-all}
 use Rattle.aeth_stimuli.specs.Loaded.{loaded_components}
 use Rattle.aeth_stimuli.specs.Stimuli.{Offer, Take, is_offered_in, offer_of, stimuli_of, take_of}
-use Rattle.aeth_stimuli.proofs.GoingLists.{by, goings-all}
-use Rattle.aeth_stimuli.proofs.OfferedWords.{offered-few, rise-map}
-use Rattle.aeth_stimuli.proofs.WordPlaces.{window-placed}
+use Rattle.aeth_stimuli.proofs.{GoingLists.by, GoingLists.goings-all, OfferedWords.offered-few}
+use Rattle.aeth_stimuli.proofs.{OfferedWords.rise-map, WordPlaces.window-placed}
 
 -- The number of a channel of one of so many connections.
 number-known : (c : ℕ) (side : Side) (connections : ℕ) → c < connections

@@ -1,19 +1,17 @@
 -- The events of a switch: which there are, in which cycles, and in which order.
-use Rattle.std.proofs.Common.{◌≡◌, ◌+◌, ◌++◌, ℕ, zero, suc, List, [], ◌∷◌, Contains, Some}
-use Rattle.std.proofs.Common.{ap, arith, inl, inr, refl, slice_get, subst, sym}
+use Rattle.std.proofs.Common.{◌≡◌, ◌+◌, ◌++◌, ℕ, zero, suc, List, [], ◌∷◌, Contains, Some, ap}
+use Rattle.std.proofs.Common.{arith, inl, inr, refl, slice_get, subst, sym}
 use Rattle.std.proofs.lemmas.List.Elements.{Contains-append_cases, Contains-append_left}
 use Rattle.std.proofs.lemmas.List.Elements.{Contains-append_right}
 use Rattle.std.proofs.lemmas.Option.{same_Some}
 use Rattle.aeth_base.proofs.Members.{Contains-cases, Contains-here, Contains-map, Contains-nil}
 use Rattle.aeth_base.proofs.Members.{Contains-there, map-Contains}
 use Rattle.aeth_ni.specs.Program.{program_of}
-use Rattle.aeth_ni.specs.declared.row.ChannelRow.{ChannelRow}
-use Rattle.aeth_ni.specs.declared.write.Write.{Write}
+use Rattle.aeth_ni.specs.declared.{row.ChannelRow.ChannelRow, write.Write.Write}
 use Rattle.aeth_report.specs.declared.session.Close.{Close}
 use Rattle.aeth_components.specs.declared.event.Event.TheVariants.{Change, Finish, Halt}
-use Rattle.aeth_schedule.specs.Lines.{end_of}
-use Rattle.aeth_schedule.specs.Timed.{events_with, finishes_at, halts_at, writes_from}
-use Rattle.aeth_schedule.specs.declared.timed.Timed.{Timed}
+use Rattle.aeth_schedule.specs.{Lines.end_of, Timed.events_with, Timed.finishes_at, Timed.halts_at}
+use Rattle.aeth_schedule.specs.{Timed.writes_from, declared.timed.Timed.Timed}
 
 -- ---- which there are
 

@@ -1,34 +1,30 @@
 -- The events of a switch come in order, and no two of one cycle change one queue or write one slot.
-use Rattle.std.proofs.Common.{◌≡◌, ◌≤◌, ◌<◌, ◌∙◌, ◌+◌, ◌++◌, ℕ, List, [], ◌∷◌, Contains, Some}
-use Rattle.std.proofs.Common.{ap, arith, inl, inr, length, map, slice_get, subst, sym}
-use Rattle.std.specs.Prelude.{sum_by}
+use Rattle.std.proofs.Common.{◌≡◌, ◌≤◌, ◌<◌, ◌∙◌, ◌+◌, ◌++◌, ℕ, List, [], ◌∷◌, Contains, Some, ap}
+use Rattle.std.proofs.Common.{arith, inl, inr, length, map, slice_get, subst, sym, sum_by}
+use Rattle.std.proofs.Common.{length-append}
+use Rattle.std.proofs.lemmas.{List.Concat.flat_map-cons, List.Elements.Contains-append_cases}
+use Rattle.std.proofs.lemmas.{List.Sums.sum_by-cons, Option.same_Some, Option.slice_get_within}
 use Rattle.std.specs.List.{AllPairs, flat_map}
-use Rattle.std.proofs.lemmas.List.{length-append}
-use Rattle.std.proofs.lemmas.List.Concat.{flat_map-cons}
-use Rattle.std.proofs.lemmas.List.Elements.{Contains-append_cases}
-use Rattle.std.proofs.lemmas.List.Sums.{sum_by-cons}
-use Rattle.std.proofs.lemmas.Option.{same_Some, slice_get_within}
 use Rattle.aeth_base.specs.declared.ids.NiId.{NiId}
 use Rattle.aeth_base.proofs.Members.{Contains-here, Contains-nil, map-Contains}
 use Rattle.aeth_group.specs.Members.{GroupsData}
 use Rattle.aeth_ni.specs.Program.{closing_writes, opening_writes, program_of, write_count}
 use Rattle.aeth_ni.specs.declared.row.ChannelRow.{ChannelRow}
-use Rattle.aeth_ni.specs.declared.write.Write.{Write}
-use Rattle.aeth_ni.specs.declared.write.Write.TheVariants.{ClearRoute, ClearSlot}
+use Rattle.aeth_ni.specs.declared.write.Write.{Write, TheVariants.ClearRoute, TheVariants.ClearSlot}
+use Rattle.aeth_ni.proofs.ProgramLemmas.{length-closing_writes, length-opening_writes}
 use Rattle.aeth_trace.specs.Spans.{SpanData, span_of}
 use Rattle.aeth_report.specs.Sessions.{Switch, close_by, go_by}
 use Rattle.aeth_reconf.specs.Rows.{RowOf, rows_closing, rows_opening}
-use Rattle.aeth_ni.proofs.ProgramLemmas.{length-closing_writes, length-opening_writes}
 use Rattle.aeth_reconf.proofs.WriteCounts.{length-writes}
 use Rattle.aeth_components.specs.Switching.{Touches, Writes}
 use Rattle.aeth_components.specs.declared.event.Event.{Event}
 use Rattle.aeth_components.specs.declared.event.Event.TheVariants.{Change, Finish, Halt}
 use Rattle.aeth_components.specs.declared.lane.ChannelEnd.{ChannelEnd}
-use Rattle.aeth_schedule.specs.Lines.{end_of}
-use Rattle.aeth_schedule.specs.Timed.{events_with, finishes_at, halts_at, writes_from}
-use Rattle.aeth_schedule.specs.declared.timed.Timed.{Timed}
+use Rattle.aeth_schedule.specs.{Lines.end_of, Timed.events_with, Timed.finishes_at, Timed.halts_at}
+use Rattle.aeth_schedule.specs.{Timed.writes_from, declared.timed.Timed.Timed}
 use Rattle.aeth_stimuli.proofs.Pairs.{pairs-append, pairs-cons, pairs-map, pairs-none}
-use Rattle.aeth_stimuli.proofs.SwitchEvents.{IsWriteAt, IsChange, IsFinish, IsHalt, event-by, write-of}
+use Rattle.aeth_stimuli.proofs.SwitchEvents.{IsWriteAt, IsChange, IsFinish, IsHalt, event-by}
+use Rattle.aeth_stimuli.proofs.SwitchEvents.{write-of}
 
 -- Two events change no queue in common, and write no slot in common.
 pub record ArePlacedApart (one other : Event) : Type 0 where

@@ -1,11 +1,10 @@
 -- The sessions that a switch closes and opens, and when.
 use Rattle.std.proofs.Common.{◌≡◌, ◌≤◌, ◌<◌, ◌∙◌, ◌+◌, ℕ, zero, suc, true, List, [], ◌∷◌, Contains}
-use Rattle.std.proofs.Common.{Option}
-use Rattle.std.proofs.Common.{Some, ap, arith, inl, inr, length, refl, slice_get, subst, sym}
-use Rattle.std.specs.Prelude.{◌==◌, IfSome, option_map, unwrap_or}
-use Rattle.std.specs.List.{list_any, position_or_len}
-use Rattle.std.proofs.lemmas.Bool.{cases_Bool, eq-eqb, eqb-true}
+use Rattle.std.proofs.Common.{Option, Some, ap, arith, inl, inr, length, refl, slice_get, subst}
+use Rattle.std.proofs.Common.{sym, ◌==◌, IfSome, option_map, unwrap_or, eq-eqb, eqb-true}
+use Rattle.std.proofs.lemmas.Bool.{cases_Bool}
 use Rattle.std.proofs.lemmas.Option.{get_or_from_slice_get, same_Some, slice_get_within}
+use Rattle.std.specs.List.{list_any, position_or_len}
 use Rattle.aeth_base.specs.declared.ids.Channel.{Channel}
 use Rattle.aeth_slots.specs.SlotSet.{Ascends}
 use Rattle.aeth_group.specs.Members.{GroupsData, group_at, groups_of}
@@ -16,10 +15,9 @@ use Rattle.aeth_reconf.specs.Windows.{IsClosed, IsOpened, cleared_of, freed_of, 
 use Rattle.aeth_tables.proofs.ListLaws.{place_in}
 use Rattle.aeth_accepted.specs.Inputs.{Inputs, design_of, row_at, run_of}
 use Rattle.aeth_fabric.specs.Fabric.{Placed, cleared_by, flow_in, freed_by, freed_in, no_placed}
-use Rattle.aeth_fabric.specs.Fabric.{passage_of, placed_at, placed_of, row_in, slot_at, slot_freed_in}
-use Rattle.aeth_fabric.specs.Fabric.{slot_set_in, stays_in}
-use Rattle.aeth_fabric.proofs.ApartWires.{past}
-use Rattle.aeth_fabric.proofs.Numbers.{numbered}
+use Rattle.aeth_fabric.specs.Fabric.{passage_of, placed_at, placed_of, row_in, slot_at}
+use Rattle.aeth_fabric.specs.Fabric.{slot_freed_in, slot_set_in, stays_in}
+use Rattle.aeth_fabric.proofs.{ApartWires.past, Numbers.numbered}
 use Rattle.aeth_schedule.specs.Switching.{later_switches}
 use Rattle.aeth_stimuli.proofs.StaySwitches.{closed-stay, opened-stay}
 

@@ -1,27 +1,21 @@
 -- The lines of a use case are those of its channels.
-use Rattle.std.proofs.Common.{◌≡◌, ◌<◌, ◌∙◌, ℕ, List, [], ◌∷◌, ap, drop, filter, get_or, length, map}
-use Rattle.std.proofs.Common.{not}
-use Rattle.std.proofs.Common.{refl, sym}
-use Rattle.std.specs.Prelude.{flat_map}
+use Rattle.std.proofs.Common.{◌≡◌, ◌<◌, ◌∙◌, ℕ, List, [], ◌∷◌, ap, drop, filter, get_or, length}
+use Rattle.std.proofs.Common.{map, not, refl, sym, flat_map}
 use Rattle.std.specs.List.{range_with_len}
-use Rattle.aeth_base.specs.declared.ids.Channel.{Channel}
-use Rattle.aeth_base.specs.declared.ids.Side.TheVariants.{Back, Fwd}
-use Rattle.aeth_base.proofs.Filters.{filter-map}
-use Rattle.aeth_server.specs.ChannelShape.{shape_of}
-use Rattle.aeth_server.specs.Shape.{Shape}
-use Rattle.aeth_server.specs.declared.shape.ChannelShape.{ChannelShape}
+use Rattle.aeth_base.{specs.declared.ids.Channel.Channel, specs.declared.ids.Side.TheVariants.Back}
+use Rattle.aeth_base.{specs.declared.ids.Side.TheVariants.Fwd, proofs.Filters.filter-map}
+use Rattle.aeth_server.specs.{ChannelShape.shape_of, Shape.Shape}
+use Rattle.aeth_server.specs.{declared.shape.ChannelShape.ChannelShape}
 use Rattle.aeth_group.specs.Members.{group_at, groups_of, has_at, is_kept}
 use Rattle.aeth_ni.specs.declared.row.ChannelRow.{ChannelRow}
-use Rattle.aeth_report.specs.Channels.{channels_with, opposite}
-use Rattle.aeth_report.specs.Design.{shape_at}
-use Rattle.aeth_report.specs.Sessions.{opens}
+use Rattle.aeth_report.specs.{Channels.channels_with, Channels.opposite, Design.shape_at}
+use Rattle.aeth_report.specs.{Sessions.opens}
 use Rattle.aeth_reconf.specs.Rows.{channels_that}
 use Rattle.aeth_tables.specs.Tables.{tables_of}
 use Rattle.aeth_components.specs.declared.lane.ChannelEnd.{ChannelEnd}
 use Rattle.aeth_accepted.specs.Inputs.{AreAccepted, Inputs, design_of, row_at}
 use Rattle.aeth_accepted.proofs.TableFlows.{rows-of_tables, shapes-of_tables}
-use Rattle.aeth_schedule.specs.Lines.{all_lines, changed_lines, end_of, lines_at}
-use Rattle.aeth_schedule.specs.Lines.{lines_with}
+use Rattle.aeth_schedule.specs.Lines.{all_lines, changed_lines, end_of, lines_at, lines_with}
 use Rattle.aeth_schedule.specs.declared.lines.Line.{Line}
 use Rattle.aeth_schedule.proofs.LineLemmas.{line-at}
 use Rattle.aeth_stimuli.proofs.ChannelLists.{channels-passing}

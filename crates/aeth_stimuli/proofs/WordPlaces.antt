@@ -1,21 +1,17 @@
 -- The words of sessions have places of their own among those of all channels.
-use Rattle.std.proofs.Common.{◌≡◌, ◌≤◌, ◌<◌, ◌+◌, ◌++◌, ◌∙◌, ℕ, List, Option, Some, ap, arith}
-use Rattle.std.proofs.Common.{drop, filter, inl, inr, length, map, refl, subst, sym, take}
-use Rattle.std.specs.Prelude.{option_map, slice_get}
-use Rattle.std.specs.List.Sorted.{IsNonDecreasingBy}
+use Rattle.std.proofs.Common.{◌≡◌, ◌≤◌, ◌<◌, ◌+◌, ◌++◌, ◌∙◌, ℕ, List, Option, Some, ap, arith, drop}
+use Rattle.std.proofs.Common.{filter, inl, inr, length, map, refl, subst, sym, take, option_map}
+use Rattle.std.proofs.Common.{slice_get, drop-drop, drop_at, length-append, length-drop}
 use Rattle.std.proofs.lemmas.Bool.{cases_order}
-use Rattle.std.proofs.lemmas.List.{drop-append-le, drop-drop, drop-map, drop_at, length-append}
-use Rattle.std.proofs.lemmas.List.{length-drop, length-map, take-append-le, take-map}
+use Rattle.std.proofs.lemmas.List.{drop-append-le, drop-map, length-map, take-append-le, take-map}
+use Rattle.std.specs.List.Sorted.{IsNonDecreasingBy}
 use Rattle.aeth_base.specs.declared.ids.Channel.{Channel}
 use Rattle.aeth_group.proofs.MemberLemmas.{connections-groups_of}
-use Rattle.aeth_trace.specs.Channels.{is_channel}
-use Rattle.aeth_trace.specs.Words.{words_on}
-use Rattle.aeth_trace.specs.declared.words.WordRow.{WordRow}
+use Rattle.aeth_trace.specs.{Channels.is_channel, Words.words_on, declared.words.WordRow.WordRow}
 use Rattle.aeth_trace.proofs.OrderLemmas.{rise-filter}
 use Rattle.aeth_report.specs.Flows.{close_at, is_within}
 use Rattle.aeth_report.specs.Sessions.{Switch, close_by, go_of}
-use Rattle.aeth_refinement.specs.Carried.{words_from}
-use Rattle.aeth_refinement.specs.Fabric.{flow_at}
+use Rattle.aeth_refinement.specs.{Carried.words_from, Fabric.flow_at}
 use Rattle.aeth_accepted.specs.Inputs.{AreAccepted, Inputs, run_of}
 use Rattle.aeth_fabric.specs.Fabric.{Placed, ended, fabric_of, placed_at, placed_of, session_in}
 use Rattle.aeth_fabric.specs.Fabric.{stays_in}
@@ -25,8 +21,8 @@ use Rattle.aeth_invariant.specs.Places.{ArePlaced}
 use Rattle.aeth_stimuli.specs.Sessions.{first_of}
 use Rattle.aeth_stimuli.proofs.ChannelPlaces.{places-apart, stands-among}
 use Rattle.aeth_stimuli.proofs.SessionOrder.{stays-ordered}
-use Rattle.aeth_stimuli.proofs.WordWindows.{before-below, below, below-more, between-window, cycle_of}
-use Rattle.aeth_stimuli.proofs.WordWindows.{window-within}
+use Rattle.aeth_stimuli.proofs.WordWindows.{before-below, below, below-more, between-window}
+use Rattle.aeth_stimuli.proofs.WordWindows.{cycle_of, window-within}
 
 module _ (words : List WordRow) (connections : ℕ) (channel : Channel)
     (known : channel.conn.0 < connections) (go until : ℕ) where

@@ -1,20 +1,18 @@
 -- The words that a session accepts stand together among those of its channel, which are in the order of
 -- their cycles.
 use Rattle.std.proofs.Common.{◌≡◌, ◌≤◌, ◌<◌, ◌+◌, ◌&&◌, ◌∙◌, ℕ, zero, suc, All, Bool, List, [], ◌∷◌}
-use Rattle.std.proofs.Common.{ap, arith, drop, filter, inl, inr, length, refl, sym, take}
-use Rattle.std.specs.Prelude.{nat_le, nat_lt}
-use Rattle.std.specs.List.Sorted.{IsNonDecreasingBy}
-use Rattle.std.proofs.lemmas.Bool.{and_from, and_left, and_right, cases_lt, le-leb, le-ltb, lt-leb}
-use Rattle.std.proofs.lemmas.Bool.{lt-ltb}
+use Rattle.std.proofs.Common.{ap, arith, drop, filter, inl, inr, length, refl, sym, take, nat_le}
+use Rattle.std.proofs.Common.{nat_lt, le-leb, le-ltb, lt-ltb}
+use Rattle.std.proofs.lemmas.Bool.{and_from, and_left, and_right, cases_lt, lt-leb}
 use Rattle.std.proofs.lemmas.Bool.Decides.{nat_tests}
 use Rattle.std.proofs.lemmas.List.Elements.{All-head, All-tail, filter_agree}
 use Rattle.std.proofs.lemmas.List.Sums.{count_by-le-length, length-filter}
+use Rattle.std.specs.List.Sorted.{IsNonDecreasingBy}
 use Rattle.aeth_base.specs.declared.ids.Channel.{Channel}
-use Rattle.aeth_trace.proofs.OrderLemmas.{later_rise}
-use Rattle.aeth_trace.specs.Words.{words_on}
-use Rattle.aeth_trace.specs.declared.words.WordRow.{WordRow}
-use Rattle.aeth_schedule.specs.Values.{before_of}
 use Rattle.aeth_base.proofs.Filters.{filter-no, filter-yes}
+use Rattle.aeth_trace.proofs.OrderLemmas.{later_rise}
+use Rattle.aeth_trace.specs.{Words.words_on, declared.words.WordRow.WordRow}
+use Rattle.aeth_schedule.specs.Values.{before_of}
 
 module _ {X : Type 0} (n : X → ℕ) where
   -- The items before a number, and those from one on and before another.

@@ -1,6 +1,6 @@
 -- The events of a cycle.
 -- This project's own.
-use Rattle.std.specs.Prelude.{ℕ, ◌==◌, List, filter, map}
+use Rattle.std.proofs.Common.{ℕ, ◌==◌, List, filter, map}
 use Rattle.std.specs.List.{zip}
 use Rattle.aeth_components.specs.declared.event.Event.{Event}
 use Rattle.aeth_stimuli.specs.Stimuli.{Stimuli}

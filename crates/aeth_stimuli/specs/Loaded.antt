@@ -3,18 +3,14 @@
 --   nowhere, no_lane      a channel of which no session has gone
 --   loaded_as, loaded_components      those of a chip, with the tables of the first use case
 -- This project's own.
-use Rattle.std.specs.Prelude.{◌*◌, length, replicate}
+use Rattle.std.proofs.Common.{◌*◌, length, replicate}
 use Rattle.aeth_trace.specs.Limits.{usual_pull}
 use Rattle.aeth_components.specs.Changes.{switched}
 use Rattle.aeth_components.specs.Components.{ComponentsState, first_components}
-use Rattle.aeth_components.specs.declared.lane.ChannelEnd.{ChannelEnd}
-use Rattle.aeth_components.specs.declared.lane.Lane.{Lane}
-use Rattle.aeth_components.specs.declared.making.RouterKind.{RouterKind}
-use Rattle.aeth_components.specs.declared.making.RouterKind.TheVariants.{ByHeader}
+use Rattle.aeth_components.specs.declared.lane.{ChannelEnd.ChannelEnd, Lane.Lane}
+use Rattle.aeth_components.specs.declared.making.RouterKind.{RouterKind, TheVariants.ByHeader}
 use Rattle.aeth_accepted.specs.Inputs.{Inputs}
-use Rattle.aeth_schedule.specs.Rooms.{rooms_of}
-use Rattle.aeth_schedule.specs.Switching.{loaded_of}
-use Rattle.aeth_schedule.specs.Values.{values_of}
+use Rattle.aeth_schedule.specs.{Rooms.rooms_of, Switching.loaded_of, Values.values_of}
 
 -- Where a channel is that has no session yet.
 abbrev pub nowhere : ChannelEnd

@@ -1,6 +1,6 @@
 -- Sessions over the interfaces of a chip.
 -- This project's own.
-use Rattle.std.specs.Prelude.{◌≤◌, ◌<◌, ℕ, ◌+◌, ◌*◌, List, length, slice_range}
+use Rattle.std.proofs.Common.{◌≤◌, ◌<◌, ℕ, ◌+◌, ◌*◌, List, length, slice_range}
 use Rattle.std.specs.List.{slice_index_or}
 use Rattle.aeth_chip.specs.Chip.{ChipData}
 use Rattle.aeth_ni.specs.Limits.{queues_of_interface}

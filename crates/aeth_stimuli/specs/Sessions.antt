@@ -5,23 +5,18 @@
 --   channel_of, first_of      the channel of a session of the fabric, and the place of its first word
 --   IsBefore      one session is done before another goes
 -- This project's own.
-use Rattle.std.specs.Prelude.{◌≡◌, ◌≤◌, ℕ, ◌+◌, ◌-◌, Some, min}
+use Rattle.std.proofs.Common.{◌≡◌, ◌≤◌, ℕ, ◌+◌, ◌-◌, Some, min}
 use Rattle.aeth_base.specs.declared.ids.Channel.{Channel}
-use Rattle.aeth_server.specs.ChannelShape.{shape_of}
-use Rattle.aeth_server.specs.Shape.{Shape}
+use Rattle.aeth_server.specs.{ChannelShape.shape_of, Shape.Shape}
 use Rattle.aeth_trace.specs.Channels.{channel_number}
-use Rattle.aeth_report.specs.Channels.{opposite}
-use Rattle.aeth_report.specs.Design.{shape_at}
-use Rattle.aeth_report.specs.Flows.{close_at}
-use Rattle.aeth_report.specs.declared.session.Close.{Close}
-use Rattle.aeth_report.specs.declared.session.Session.{Session}
+use Rattle.aeth_report.specs.{Channels.opposite, Design.shape_at, Flows.close_at}
+use Rattle.aeth_report.specs.{declared.session.Close.Close, declared.session.Session.Session}
 use Rattle.aeth_refinement.specs.Fabric.{server_at}
 use Rattle.aeth_components.specs.declared.lane.Lane.{Lane}
 use Rattle.aeth_accepted.specs.Inputs.{Inputs, design_of, row_at, run_of}
 use Rattle.aeth_fabric.specs.Fabric.{fabric_of, placed_at}
-use Rattle.aeth_schedule.specs.Lines.{end_of}
-use Rattle.aeth_schedule.specs.Values.{before_of, start_of}
-use Rattle.aeth_schedule.specs.declared.going.Going.{Going}
+use Rattle.aeth_schedule.specs.{Lines.end_of, Values.before_of, Values.start_of}
+use Rattle.aeth_schedule.specs.{declared.going.Going.Going}
 
 -- A session that goes, as `Going` has it, but for its shape, which is in numbers.
 pub record SessionGoing : Type 0 where

@@ -7,15 +7,12 @@
 --   is_offered_in      a word that a session accepts
 --   AreStimuli      what holds of them all
 -- This project's own.
-use Rattle.std.specs.Prelude.{◌≡◌, ◌≤◌, ◌<◌, ◌+◌, ◌==◌, ◌&&◌, ℕ, All, Bool, List, count_by, filter}
-use Rattle.std.specs.Prelude.{length, map, nat_le, nat_lt}
+use Rattle.std.proofs.Common.{◌≡◌, ◌≤◌, ◌<◌, ◌+◌, ◌==◌, ◌&&◌, ℕ, All, Bool, List, count_by, filter}
+use Rattle.std.proofs.Common.{length, map, nat_le, nat_lt}
 use Rattle.std.specs.List.Sorted.{IsNonDecreasing, IsNonDecreasingBy}
 use Rattle.aeth_trace.specs.Channels.{channel_number}
-use Rattle.aeth_trace.specs.declared.receivers.PullRow.{PullRow}
-use Rattle.aeth_trace.specs.declared.words.WordRow.{WordRow}
-use Rattle.aeth_components.specs.Events.{IsDoable}
-use Rattle.aeth_components.specs.Frames.{Frame}
-use Rattle.aeth_components.specs.Lanes.{IsLane}
+use Rattle.aeth_trace.specs.declared.{receivers.PullRow.PullRow, words.WordRow.WordRow}
+use Rattle.aeth_components.specs.{Events.IsDoable, Frames.Frame, Lanes.IsLane}
 use Rattle.aeth_accepted.specs.Inputs.{Inputs}
 use Rattle.aeth_schedule.specs.Schedule.{ScheduleData, schedule_of}
 use Rattle.aeth_schedule.specs.declared.going.Going.{Going}

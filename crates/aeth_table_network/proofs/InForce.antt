@@ -1,15 +1,11 @@
 -- The rows that are in the tables of routers in a cycle are those of the use case in force.
 use Rattle.std.proofs.Common.{◌≡◌, ◌≤◌, ◌+◌, ◌∙◌, ℕ, All, Bool, List, [], ◌∷◌, ap, arith, cond}
-use Rattle.std.proofs.Common.{filter, fold, inl, inr, map, nat_lt, refl, sym}
-use Rattle.std.specs.Prelude.{Ok}
+use Rattle.std.proofs.Common.{filter, fold, inl, inr, map, nat_lt, refl, sym, Ok, le-ltb, lt-ltb}
+use Rattle.std.proofs.lemmas.{Bool.cases_lt, List.Elements.All-cons, List.Elements.All-nil}
 use Rattle.std.specs.List.Sorted.{IsNonDecreasingBy}
-use Rattle.std.proofs.lemmas.Bool.{cases_lt, le-ltb, lt-ltb}
-use Rattle.std.proofs.lemmas.List.Elements.{All-cons, All-nil}
 use Rattle.aeth_router.specs.declared.router_row.RouterRow.{RouterRow}
-use Rattle.aeth_trace.proofs.OrderLemmas.{rise-cons}
-use Rattle.aeth_trace.specs.Spans.{SpanData}
-use Rattle.aeth_trace.specs.Switches.{are_apart}
-use Rattle.aeth_trace.specs.declared.switches.SwitchRow.{SwitchRow}
+use Rattle.aeth_trace.{proofs.OrderLemmas.rise-cons, specs.Spans.SpanData, specs.Switches.are_apart}
+use Rattle.aeth_trace.{specs.declared.switches.SwitchRow.SwitchRow}
 use Rattle.aeth_report.proofs.SessionMeetings.{AreInTime, in_time}
 use Rattle.aeth_report.specs.Sessions.{Switch, close_by, go_by}
 use Rattle.aeth_rtable.specs.InForce.{use_from, use_in_force}

@@ -1,24 +1,20 @@
 -- The tables of accepted inputs are such as routers need, and those that are made of a list.
-use Rattle.std.proofs.Common.{◌≡◌, ◌<◌, ℕ, All, Contains, List, [], ◌∷◌, arith, length, map}
-use Rattle.std.proofs.Common.{refl, subst, sym}
+use Rattle.std.proofs.Common.{◌≡◌, ◌<◌, ℕ, All, Contains, List, [], ◌∷◌, arith, length, map, refl}
+use Rattle.std.proofs.Common.{subst, sym}
 use Rattle.std.proofs.lemmas.List.Elements.{All-head, All-map, All-tail}
 use Rattle.std.proofs.lemmas.List.FromFn.{get_or-map-range_with_len}
-use Rattle.aeth_base.proofs.Members.{Contains-slice_get}
-use Rattle.aeth_base.specs.declared.ids.RouterId.{RouterId}
-use Rattle.aeth_router.specs.Rows.{AreRowsFor}
-use Rattle.aeth_router.specs.TableRouter.{new_table_router}
-use Rattle.aeth_router.specs.declared.router_row.RouterRow.{RouterRow}
+use Rattle.aeth_base.{proofs.Members.Contains-slice_get, specs.declared.ids.RouterId.RouterId}
+use Rattle.aeth_router.specs.{Rows.AreRowsFor, TableRouter.new_table_router}
+use Rattle.aeth_router.specs.{declared.router_row.RouterRow.RouterRow}
 use Rattle.aeth_report.specs.Sessions.{Switch, close_by, go_by}
 use Rattle.aeth_refinement.specs.Tables.{AreEntries}
 use Rattle.aeth_tables.proofs.ListLaws.{all_from_places}
 use Rattle.aeth_accepted.specs.Inputs.{AreAccepted, Inputs, run_of}
 use Rattle.aeth_fabric.specs.Fabric.{fabric_of}
-use Rattle.aeth_rtable.specs.InForce.{rows_in_force}
-use Rattle.aeth_rtable.specs.Sending.{from_rows}
+use Rattle.aeth_rtable.specs.{InForce.rows_in_force, Sending.from_rows}
 use Rattle.aeth_running.specs.Routing.{AreRowsOn, ByTables, Entering, IsRoutingFor, IsSwitched}
 use Rattle.aeth_running.specs.Routing.{rows_at}
-use Rattle.aeth_schedule.specs.Switching.{later_switches}
-use Rattle.aeth_schedule.specs.Windows.{Writes}
+use Rattle.aeth_schedule.specs.{Switching.later_switches, Windows.Writes}
 use Rattle.aeth_network.proofs.Enterings.{first-known, later-known}
 use Rattle.aeth_network.specs.Routes.{entered_by, entering_of, first_use, routing_by, rows_in}
 use Rattle.aeth_network.specs.declared.tables.EnteredUse.{EnteredUse}

@@ -3,7 +3,7 @@
 --   rows_of_use, all_rows      the rows of a use case, and those of all
 --   tables_of      by which tables the routers of a run send on
 -- Tables in routers: this project's own.
-use Rattle.std.specs.Prelude.{ℕ, List, length, map}
+use Rattle.std.proofs.Common.{ℕ, List, length, map}
 use Rattle.std.specs.List.{range_with_len}
 use Rattle.aeth_group.specs.Members.{groups_of}
 use Rattle.aeth_router.specs.declared.router_row.RouterRow.{RouterRow}

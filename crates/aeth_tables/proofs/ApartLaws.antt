@@ -1,32 +1,20 @@
 -- Rows of one interface share no queue: their connections are at one core's seat, and have different
 -- positions there.
-use Rattle.std.proofs.Common.{◌≡◌, ◌<◌, ◌∙◌, ℕ, true, eqb, List, Some, Contains}
-use Rattle.std.proofs.Common.{slice_get, length, refl, sym, ap, inl, inr, arith, subst}
-use Rattle.std.specs.Prelude.{IsSomeAnd, IsTrue}
-use Rattle.std.proofs.lemmas.Bool.{cases_lt, eq-eqb, or_left, or_right}
-use Rattle.std.proofs.lemmas.Option.{same_Some}
-use Rattle.aeth_base.specs.declared.ids.CoreId.{CoreId}
-use Rattle.aeth_base.specs.declared.ids.NiId.{NiId}
-use Rattle.aeth_base.specs.declared.ids.Side.{Side}
-use Rattle.aeth_base.specs.declared.ids.Side.TheVariants.{Back, Fwd}
+use Rattle.std.proofs.Common.{◌≡◌, ◌<◌, ◌∙◌, ℕ, true, eqb, List, Some, Contains, slice_get, length}
+use Rattle.std.proofs.Common.{refl, sym, ap, inl, inr, arith, subst, IsSomeAnd, IsTrue, eq-eqb}
+use Rattle.std.proofs.lemmas.{Bool.cases_lt, Bool.or_left, Bool.or_right, Option.same_Some}
+use Rattle.aeth_base.specs.declared.ids.{CoreId.CoreId, NiId.NiId, Side.Side, Side.TheVariants.Back}
+use Rattle.aeth_base.specs.declared.ids.{Side.TheVariants.Fwd}
 use Rattle.aeth_chip.specs.Chip.{ChipData}
-use Rattle.aeth_app.specs.App.{AppData, IsConnection, is_end, position_of}
-use Rattle.aeth_app.specs.declared.connection.Connection.{Connection}
-use Rattle.aeth_app.specs.Limits.{max_core_connections}
-use Rattle.aeth_app.proofs.AppLemmas.{position_of-few}
-use Rattle.aeth_app.proofs.PositionLemmas.{position_of-apart}
-use Rattle.aeth_app.specs.Connections.{sender}
-use Rattle.aeth_group.specs.declared.grant.SeatLine.{SeatLine}
-use Rattle.aeth_group.proofs.ListLemmas.{all_at}
+use Rattle.aeth_app.specs.{App.AppData, App.IsConnection, App.is_end, App.position_of}
+use Rattle.aeth_app.specs.{declared.connection.Connection.Connection, Limits.max_core_connections}
+use Rattle.aeth_app.specs.{Connections.sender}
+use Rattle.aeth_app.proofs.{AppLemmas.position_of-few, PositionLemmas.position_of-apart}
+use Rattle.aeth_group.{specs.declared.grant.SeatLine.SeatLine, proofs.ListLemmas.all_at}
 use Rattle.aeth_seats.specs.Seats.{queue_of}
-use Rattle.aeth_plan.specs.Plan.{PlanData}
-use Rattle.aeth_plan.specs.Accepted.{NoTwo}
-use Rattle.aeth_plan.specs.Seated.{IsOneSeat}
-use Rattle.aeth_plan.specs.Design.{IsDesign}
-use Rattle.aeth_tables.specs.Granted.{sending_seat}
-use Rattle.aeth_tables.specs.Reserved.{IsPlanned, IsReserved}
-use Rattle.aeth_tables.specs.Tables.{queue_at}
-use Rattle.aeth_tables.specs.declared.granted.GrantedConnection.{GrantedConnection}
+use Rattle.aeth_plan.specs.{Plan.PlanData, Accepted.NoTwo, Seated.IsOneSeat, Design.IsDesign}
+use Rattle.aeth_tables.specs.{Granted.sending_seat, Reserved.IsPlanned, Reserved.IsReserved}
+use Rattle.aeth_tables.specs.{Tables.queue_at, declared.granted.GrantedConnection.GrantedConnection}
 use Rattle.aeth_tables.proofs.ListLaws.{place_in}
 
 -- ---- No two items

@@ -1,22 +1,19 @@
 -- What the channels of all groups need is what those of all use cases need.
-use Rattle.std.proofs.Common.{◌≡◌, ◌∙◌, ◌<◌, ◌&&◌, ◌==◌, ℕ, true, Option, Some, None, Contains}
-use Rattle.std.proofs.Common.{ap, arith, filter, inl, inr, length, refl}
+use Rattle.std.proofs.Common.{◌≡◌, ◌∙◌, ◌<◌, ◌&&◌, ◌==◌, ℕ, true, Option, Some, None, Contains, ap}
+use Rattle.std.proofs.Common.{arith, filter, inl, inr, length, refl, eqb-true}
+use Rattle.std.proofs.lemmas.{Bool.and_parts, Bool.cases_Bool, Option.slice_get_within}
 use Rattle.std.specs.List.{range_with_len}
-use Rattle.std.proofs.lemmas.Bool.{and_parts, cases_Bool, eqb-true}
-use Rattle.std.proofs.lemmas.Option.{slice_get_within}
 use Rattle.aeth_base.proofs.Members.{Contains-filter, Contains-filter_map, Contains-flat_map}
 use Rattle.aeth_base.proofs.Members.{Contains-nil, filter-Contains, flat_map-Contains}
 use Rattle.aeth_base.proofs.Members.{filter_map-Contains, slice_get-Contains}
 use Rattle.aeth_base.proofs.Ranges.{Contains-range, range-Contains}
 use Rattle.aeth_chip.specs.Chip.{ChipData}
 use Rattle.aeth_app.specs.App.{AppData, is_marked}
-use Rattle.aeth_group.specs.Members.{UseGroupData, group_at, group_in, groups_of, has_at}
-use Rattle.aeth_group.specs.Members.{is_member, use_has}
-use Rattle.aeth_group.proofs.ListLemmas.{passes_from_any}
-use Rattle.aeth_group.proofs.MemberLemmas.{connections-groups_of, is_groups-groups_of}
-use Rattle.aeth_group.proofs.MemberLemmas.{length-groups_of}
-use Rattle.aeth_plan.specs.Plan.{PlanData}
-use Rattle.aeth_plan.specs.Design.{IsDesign}
+use Rattle.aeth_group.specs.Members.{UseGroupData, group_at, group_in, groups_of, has_at, is_member}
+use Rattle.aeth_group.specs.Members.{use_has}
+use Rattle.aeth_group.proofs.{ListLemmas.passes_from_any, MemberLemmas.connections-groups_of}
+use Rattle.aeth_group.proofs.{MemberLemmas.is_groups-groups_of, MemberLemmas.length-groups_of}
+use Rattle.aeth_plan.specs.{Plan.PlanData, Design.IsDesign}
 use Rattle.aeth_tables.specs.Buffers.{buffers_at, buffers_for, buffers_in, buffers_of, buffers_on}
 use Rattle.aeth_tables.specs.Granted.{granted_in, granted_of}
 use Rattle.aeth_tables.specs.declared.buffering.Buffer.{Buffer}

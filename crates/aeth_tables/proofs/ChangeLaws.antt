@@ -1,12 +1,11 @@
 -- What a connection adds to a switch is little, and what all add.
-use Rattle.std.proofs.Common.{◌≡◌, ◌∙◌, ◌≤◌, ◌+◌, ◌++◌, ◌&&◌, ◌==◌, ℕ, Bool, false, List, []}
-use Rattle.std.proofs.Common.{◌*◌, ◌∷◌, All, length, max, refl, ap, arith}
+use Rattle.std.proofs.Common.{◌≡◌, ◌∙◌, ◌≤◌, ◌+◌, ◌++◌, ◌&&◌, ◌==◌, ℕ, Bool, false, List, [], ◌*◌}
+use Rattle.std.proofs.Common.{◌∷◌, All, length, max, refl, ap, arith}
+use Rattle.std.proofs.Math.Bool.{and-false}
+use Rattle.std.proofs.lemmas.List.{Elements.All-head, Elements.All-tail, Sums.sum_by-cons}
 use Rattle.aeth_base.specs.Limits.{max_slots}
 use Rattle.aeth_slots.specs.SlotSet.{IsSlotSet, Slots}
 use Rattle.aeth_slots.proofs.Ascending.{Ascends-length}
-use Rattle.std.proofs.Math.Bool.{and-false}
-use Rattle.std.proofs.lemmas.List.Elements.{All-head, All-tail}
-use Rattle.std.proofs.lemmas.List.Sums.{sum_by-cons}
 use Rattle.aeth_group.specs.Members.{GroupsData, group_at, has_at, is_kept}
 use Rattle.aeth_app.specs.Limits.{max_connections}
 use Rattle.aeth_tables.specs.Changes.{AreFew, lag_in, made, most_writes, writes_in}

@@ -3,8 +3,7 @@ use Rattle.std.proofs.Common.{◌≤◌, ◌*◌, ℕ, max, arith}
 use Rattle.std.proofs.Math.Nat.{le-max_right}
 use Rattle.aeth_base.proofs.Division.{le-div_ceil}
 use Rattle.aeth_base.specs.Limits.{credits_per_flit, words_per_flit}
-use Rattle.aeth_base.specs.declared.ids.Side.{Side}
-use Rattle.aeth_base.specs.declared.ids.Side.TheVariants.{Back, Fwd}
+use Rattle.aeth_base.specs.declared.ids.Side.{Side, TheVariants.Back, TheVariants.Fwd}
 use Rattle.aeth_app.specs.Rates.{back_need, credit_need, fwd_need, need_of, own_need}
 use Rattle.aeth_app.specs.declared.connection.Connection.{Connection}
 use Rattle.aeth_app.proofs.NeedLemmas.{credit_need-le}

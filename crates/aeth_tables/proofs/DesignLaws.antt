@@ -4,18 +4,13 @@ use Rattle.aeth_base.specs.declared.ids.UseId.{UseId}
 use Rattle.aeth_chip.specs.Chip.{ChipData, IsChip}
 use Rattle.aeth_app.specs.App.{AppData, IsApp}
 use Rattle.aeth_group.specs.Members.{GroupsData, groups_of}
-use Rattle.aeth_plan.specs.Plan.{IsPlanOf, PlanData}
-use Rattle.aeth_tables.specs.Granted.{granted_in}
-use Rattle.aeth_plan.specs.Design.{IsDesign}
+use Rattle.aeth_plan.specs.{Plan.IsPlanOf, Plan.PlanData, Design.IsDesign, Accepted.IsAccepted}
 use Rattle.aeth_plan.proofs.DesignLaws.{design_of}
-use Rattle.aeth_plan.specs.Accepted.{IsAccepted}
-use Rattle.aeth_tables.specs.Reserved.{IsReserved}
-use Rattle.aeth_tables.specs.TableText.{IsPrintable}
-use Rattle.aeth_tables.specs.Tables.{TablesData, tables_of}
-use Rattle.aeth_tables.specs.declared.granted.GrantedConnection.{GrantedConnection}
-use Rattle.aeth_tables.proofs.ListLaws.{all_from_places, has_place}
-use Rattle.aeth_tables.proofs.PromiseLaws.{are_printable}
-use Rattle.aeth_tables.proofs.UseLaws.{is_reserved}
+use Rattle.aeth_tables.specs.{Granted.granted_in, Reserved.IsReserved, TableText.IsPrintable}
+use Rattle.aeth_tables.specs.{Tables.TablesData, Tables.tables_of}
+use Rattle.aeth_tables.specs.{declared.granted.GrantedConnection.GrantedConnection}
+use Rattle.aeth_tables.proofs.{ListLaws.all_from_places, ListLaws.has_place}
+use Rattle.aeth_tables.proofs.{PromiseLaws.are_printable, UseLaws.is_reserved}
 
 module _ (chip : ChipData) (app : AppData) (groups : GroupsData) (plan : PlanData)
     (is_chip : IsChip chip) (is_app : IsApp app) (of_app : groups ≡ groups_of app)

@@ -1,9 +1,8 @@
 -- What `find` finds.
 use Rattle.std.proofs.Common.{◌≡◌, ◌∙◌, ◌<◌, ℕ, zero, suc, Bool, true, false, cond, List, [], ◌∷◌}
-use Rattle.std.proofs.Common.{Some, None, Contains, slice_get, refl, sym, ap, inl, inr, subst, arith}
-use Rattle.std.specs.Prelude.{find}
-use Rattle.std.proofs.lemmas.Bool.{false≢true}
-use Rattle.std.proofs.lemmas.Option.{none-some, same_Some}
+use Rattle.std.proofs.Common.{Some, None, Contains, slice_get, refl, sym, ap, inl, inr, subst}
+use Rattle.std.proofs.Common.{arith, find}
+use Rattle.std.proofs.lemmas.{Bool.false≢true, Option.none-some, Option.same_Some}
 use Rattle.aeth_base.proofs.Members.{Contains-cases, Contains-here, Contains-nil, Contains-there}
 
 -- What is found is in the list, and passes the test.

@@ -1,23 +1,18 @@
 -- The connections of a use case are few, and the paths of grants those of the chip.
 use Rattle.std.proofs.Common.{◌≡◌, ◌∙◌, ◌<◌, ◌≤◌, ◌+◌, ◌++◌, ℕ, suc, Bool, true, false, cond, List}
 use Rattle.std.proofs.Common.{[], ◌∷◌, All, Option, Some, None, length, filter, map, refl, sym, ap}
-use Rattle.std.proofs.Common.{arith, add-one, zero-add}
-use Rattle.std.specs.Prelude.{IfSome, option_map}
-use Rattle.std.specs.List.{cons_option, filter_map, range_with_len}
-use Rattle.std.proofs.lemmas.List.{append-nil}
+use Rattle.std.proofs.Common.{arith, add-one, zero-add, IfSome, option_map, append-nil}
 use Rattle.std.proofs.lemmas.List.Elements.{All-from_recursion, filter-append, filter_map-append}
 use Rattle.std.proofs.lemmas.List.Sums.{count_by-le-length, length-filter}
 use Rattle.std.proofs.lemmas.List.FromFn.{length-range_with_len}
+use Rattle.std.specs.List.{cons_option, filter_map, range_with_len}
 use Rattle.aeth_base.proofs.Ranges.{range_with_len-more}
-use Rattle.aeth_base.specs.declared.ids.LinkId.{LinkId}
-use Rattle.aeth_base.specs.declared.ids.Side.{Side}
-use Rattle.aeth_base.specs.declared.ids.Unit.{Unit as GroupUnit}
+use Rattle.aeth_base.specs.declared.ids.{LinkId.LinkId, Side.Side, Unit.Unit as GroupUnit}
 use Rattle.aeth_chip.specs.Chip.{ChipData}
 use Rattle.aeth_app.specs.App.{AppData}
 use Rattle.aeth_group.specs.Members.{GroupsData, group_at, has_at}
 use Rattle.aeth_group.specs.declared.grant.Grant.{Grant}
-use Rattle.aeth_plan.specs.Plan.{IsGrantOf, IsPlanOf, PlanData}
-use Rattle.aeth_plan.specs.UnitGrants.{is_for}
+use Rattle.aeth_plan.specs.{Plan.IsGrantOf, Plan.IsPlanOf, Plan.PlanData, UnitGrants.is_for}
 use Rattle.aeth_tables.specs.Changes.{HasLinks}
 use Rattle.aeth_tables.specs.Granted.{grant_of, granted_in, granted_of}
 use Rattle.aeth_tables.proofs.FindLaws.{found_is}

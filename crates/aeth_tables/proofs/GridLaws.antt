@@ -1,11 +1,10 @@
 -- A list of values for each pair of numbers, row by row.
 use Rattle.std.proofs.Common.{◌≡◌, ◌<◌, ◌+◌, ◌*◌, ◌∙◌, ℕ, zero, suc, List, length, map, get_or}
-use Rattle.std.proofs.Common.{length-append, sym, ap, arith}
-use Rattle.std.specs.Prelude.{flat_map}
-use Rattle.std.specs.List.{range_with_len}
-use Rattle.std.proofs.lemmas.List.{get_or-append-add, get_or_append_left}
+use Rattle.std.proofs.Common.{length-append, sym, ap, arith, flat_map, get_or-append-add}
+use Rattle.std.proofs.lemmas.List.{get_or_append_left}
 use Rattle.std.proofs.lemmas.List.Concat.{flat_map-cons}
 use Rattle.std.proofs.lemmas.List.FromFn.{get_or-map-range_with_len, length-map-range_with_len}
+use Rattle.std.specs.List.{range_with_len}
 
 module _ {X : Type 0} (value : ℕ → ℕ → X) (size : ℕ) where
   -- The values of a row.

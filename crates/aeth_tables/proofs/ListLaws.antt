@@ -1,13 +1,9 @@
 -- Elements of lists, by their places and as they are contained.
-use Rattle.std.proofs.Common.{◌≡◌, ◌∙◌, ◌<◌, ◌+◌, ◌++◌, ℕ, List, [], ◌∷◌, All, Contains, Some, get_or}
-use Rattle.std.proofs.Common.{length, slice_get, take, ap, subst, sym}
-use Rattle.std.specs.Prelude.{flat_map}
+use Rattle.std.proofs.Common.{◌≡◌, ◌∙◌, ◌<◌, ◌+◌, ◌++◌, ℕ, List, [], ◌∷◌, All, Contains, Some}
+use Rattle.std.proofs.Common.{get_or, length, slice_get, take, ap, subst, sym, flat_map, append-nil}
+use Rattle.std.proofs.lemmas.{Grind.flat_map-append, List.take_more, List.Concat.flat_map-cons}
+use Rattle.std.proofs.lemmas.{List.Elements.All-from_recursion, Option.slice_get-get_or}
 use Rattle.std.specs.List.{AllByRecursion}
-use Rattle.std.proofs.lemmas.Grind.{flat_map-append}
-use Rattle.std.proofs.lemmas.List.{append-nil, take_more}
-use Rattle.std.proofs.lemmas.List.Concat.{flat_map-cons}
-use Rattle.std.proofs.lemmas.List.Elements.{All-from_recursion}
-use Rattle.std.proofs.lemmas.Option.{slice_get-get_or}
 pub use Rattle.aeth_base.proofs.Members.{Contains-slice_get as has_place}
 pub use Rattle.aeth_base.proofs.Members.{slice_get-Contains as place_in}
 

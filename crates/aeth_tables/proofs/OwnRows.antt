@@ -1,15 +1,10 @@
 -- Lists of the rows of each interface.
-use Rattle.std.proofs.Common.{◌≡◌, ◌∙◌, ◌<◌, ◌++◌, ◌==◌, ℕ, cond, List, [], ◌∷◌, Some}
-use Rattle.std.proofs.Common.{arith, get_or, inl, inr, length, sym, ap}
-use Rattle.std.specs.Prelude.{flat_map, slice_set}
-use Rattle.std.specs.List.{range_with_len}
-use Rattle.std.specs.declared.alloc.Global.{Global}
-use Rattle.std.specs.declared.vec.Vec.{Vec}
-use Rattle.std.proofs.lemmas.Bool.{cases_Bool, eq-eqb, eqb-true}
-use Rattle.std.proofs.lemmas.Bool.{false≢true}
-use Rattle.std.proofs.lemmas.List.{append-nil}
-use Rattle.std.proofs.lemmas.List.Elements.{filter-append}
-use Rattle.std.proofs.lemmas.Option.{slice_get-get_or}
+use Rattle.std.proofs.Common.{◌≡◌, ◌∙◌, ◌<◌, ◌++◌, ◌==◌, ℕ, cond, List, [], ◌∷◌, Some, arith}
+use Rattle.std.proofs.Common.{get_or, inl, inr, length, sym, ap, flat_map, slice_set, eq-eqb}
+use Rattle.std.proofs.Common.{eqb-true, append-nil}
+use Rattle.std.proofs.lemmas.{Bool.cases_Bool, Bool.false≢true, List.Elements.filter-append}
+use Rattle.std.proofs.lemmas.{Option.slice_get-get_or}
+use Rattle.std.specs.{List.range_with_len, declared.alloc.Global.Global, declared.vec.Vec.Vec}
 use Rattle.aeth_base.proofs.Lists.{slice_get-slice_set_other, slice_get-slice_set_same}
 use Rattle.aeth_tables.specs.TableText.{AreOwn, list_at, rows_at, rows_in_list}
 use Rattle.aeth_tables.specs.declared.promised.PromisedRow.{PromisedRow}

@@ -1,24 +1,19 @@
 -- Where the rows and shapes of a use case stand: two of each for each of its connections, which ascend.
-use Rattle.std.proofs.Common.{◌≡◌, ◌+◌, ◌*◌, ◌++◌, ◌∙◌, ℕ, zero, suc, List, []}
-use Rattle.std.proofs.Common.{◌∷◌, Option, Some, All, Contains, slice_get, length, map}
-use Rattle.std.proofs.Common.{refl, sym, ap, arith, subst}
-use Rattle.std.specs.Prelude.{flat_map}
-use Rattle.std.specs.List.{filter_map}
-use Rattle.std.proofs.lemmas.List.Concat.{flat_map-cons}
-use Rattle.std.proofs.lemmas.List.{map-append}
+use Rattle.std.proofs.Common.{◌≡◌, ◌+◌, ◌*◌, ◌++◌, ◌∙◌, ℕ, zero, suc, List, [], ◌∷◌, Option, Some}
+use Rattle.std.proofs.Common.{All, Contains, slice_get, length, map, refl, sym, ap, arith, subst}
+use Rattle.std.proofs.Common.{flat_map}
+use Rattle.std.proofs.lemmas.List.{Concat.flat_map-cons, map-append}
 use Rattle.std.proofs.lemmas.Option.{none-some, same_Some}
+use Rattle.std.specs.List.{filter_map}
 use Rattle.aeth_base.proofs.Members.{Contains-here, Contains-there}
-use Rattle.aeth_base.specs.declared.ids.Side.{Side}
-use Rattle.aeth_base.specs.declared.ids.Side.TheVariants.{Back, Fwd}
-use Rattle.aeth_slots.specs.SlotSet.{Ascends}
-use Rattle.aeth_slots.proofs.Ascending.{Ascends-bounds}
+use Rattle.aeth_base.specs.declared.ids.Side.{Side, TheVariants.Back, TheVariants.Fwd}
+use Rattle.aeth_slots.{specs.SlotSet.Ascends, proofs.Ascending.Ascends-bounds}
 use Rattle.aeth_chip.specs.Chip.{ChipData}
 use Rattle.aeth_app.specs.App.{AppData}
 use Rattle.aeth_ni.specs.declared.row.ChannelRow.{ChannelRow}
 use Rattle.aeth_trace.specs.Channels.{side_number}
-use Rattle.aeth_tables.specs.Granted.{channels_with}
-use Rattle.aeth_tables.specs.Tables.{rows_on}
-use Rattle.aeth_tables.specs.declared.granted.GrantedConnection.{GrantedConnection}
+use Rattle.aeth_tables.specs.{Granted.channels_with, Tables.rows_on}
+use Rattle.aeth_tables.specs.{declared.granted.GrantedConnection.GrantedConnection}
 use Rattle.aeth_tables.proofs.ListLaws.{all_from_places, has_place}
 
 -- ---- Lists of numbers, and what they give

@@ -1,25 +1,19 @@
 -- The ports of links, and routes along paths.
 use Rattle.std.proofs.Common.{◌≡◌, ◌∙◌, ◌<◌, ◌≤◌, ◌+◌, ◌*◌, ◌/◌, ◌%◌, ◌^◌, ℕ, zero, suc, List, []}
 use Rattle.std.proofs.Common.{◌∷◌, All, Option, Some, None, slice_get, length, map, drop, refl, sym}
-use Rattle.std.proofs.Common.{ap, subst, arith}
-use Rattle.std.specs.Prelude.{IfSome, IsSome, option_map}
-use Rattle.std.proofs.Common.{◌-◌, min, get_or, get_or-drop, length-drop, rules}
-use Rattle.std.proofs.lemmas.Bool.{false≢true}
-use Rattle.std.proofs.lemmas.List.{length-map}
-use Rattle.std.proofs.lemmas.Option.{get_or_from_slice_get, slice_get-map}
-use Rattle.std.proofs.lemmas.Option.{slice_get_within}
+use Rattle.std.proofs.Common.{ap, subst, arith, IfSome, IsSome, option_map, ◌-◌, min, get_or}
+use Rattle.std.proofs.Common.{get_or-drop, length-drop, rules}
+use Rattle.std.proofs.lemmas.{Bool.false≢true, List.length-map, Option.get_or_from_slice_get}
+use Rattle.std.proofs.lemmas.{Option.slice_get-map, Option.slice_get_within}
 use Rattle.std.proofs.Math.Pow.{pow_mono}
 use Rattle.aeth_base.proofs.Lists.{drop-slice_get, map-slice_get}
 use Rattle.aeth_base.specs.Limits.{max_path_links}
-use Rattle.aeth_base.specs.declared.ids.LinkId.{LinkId}
-use Rattle.aeth_base.specs.declared.ids.RouterId.{RouterId}
-use Rattle.aeth_header.specs.Layout.{port_bits, route_bits}
-use Rattle.aeth_header.specs.Route.{IsPort, route_of}
-use Rattle.aeth_header.proofs.RouteLemmas.{route_of-below, route_of-drop, route_of-fits, route_of-mod}
-use Rattle.aeth_chip.specs.Chip.{ChipData, IsChip}
-use Rattle.aeth_chip.specs.Limits.{max_ports}
-use Rattle.aeth_chip.specs.Nodes.{begins_at, sender_of, sends_on}
-use Rattle.aeth_chip.specs.declared.node.Node.TheVariants.{Router}
+use Rattle.aeth_base.specs.declared.ids.{LinkId.LinkId, RouterId.RouterId}
+use Rattle.aeth_header.specs.{Layout.port_bits, Layout.route_bits, Route.IsPort, Route.route_of}
+use Rattle.aeth_header.proofs.RouteLemmas.{route_of-below, route_of-drop, route_of-fits}
+use Rattle.aeth_header.proofs.RouteLemmas.{route_of-mod}
+use Rattle.aeth_chip.specs.{Chip.ChipData, Chip.IsChip, Limits.max_ports, Nodes.begins_at}
+use Rattle.aeth_chip.specs.{Nodes.sender_of, Nodes.sends_on, declared.node.Node.TheVariants.Router}
 use Rattle.aeth_chip.proofs.NodeLemmas.{numbers_from-once, port_at}
 use Rattle.aeth_tables.specs.Routes.{IsSent, port_from, port_of, ports_along}
 use Rattle.aeth_tables.proofs.ListLaws.{all_from_places}

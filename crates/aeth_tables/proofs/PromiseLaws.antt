@@ -1,36 +1,24 @@
 -- The tables of a use case by an accepted plan keep their promises.
-use Rattle.std.proofs.Common.{◌≡◌, ◌∙◌, ◌<◌, ◌+◌, ◌*◌, ℕ, List, [], ◌∷◌, Some, Contains}
-use Rattle.std.proofs.Common.{slice_get, length, map, drop, refl, sym, ap, subst, arith}
-use Rattle.std.proofs.Common.{add-one}
-use Rattle.std.specs.Prelude.{flat_map, option_map}
-use Rattle.std.specs.List.{range_with_len}
+use Rattle.std.proofs.Common.{◌≡◌, ◌∙◌, ◌<◌, ◌+◌, ◌*◌, ℕ, List, [], ◌∷◌, Some, Contains, slice_get}
+use Rattle.std.proofs.Common.{length, map, drop, refl, sym, ap, subst, arith, add-one, flat_map}
+use Rattle.std.proofs.Common.{option_map}
 use Rattle.std.proofs.lemmas.Option.{none-some, same_Some, slice_get-map, slice_get_within}
-use Rattle.aeth_base.specs.declared.ids.LinkId.{LinkId}
-use Rattle.aeth_base.specs.declared.ids.NiId.{NiId}
-use Rattle.aeth_base.specs.declared.ids.Side.{Side}
-use Rattle.aeth_base.specs.declared.ids.Side.TheVariants.{Back, Fwd}
-use Rattle.aeth_base.specs.declared.ids.Unit.{Unit as GroupUnit}
-use Rattle.aeth_base.specs.declared.ids.UseId.{UseId}
-use Rattle.aeth_slots.proofs.Ascending.{Ascends-filter}
-use Rattle.aeth_slots.proofs.TestLemmas.{Ascends-slots}
-use Rattle.aeth_server.specs.ChannelShape.{IsShapeInRange}
-use Rattle.aeth_server.specs.declared.shape.ChannelShape.{ChannelShape}
-use Rattle.aeth_chip.specs.Chip.{ChipData}
-use Rattle.aeth_chip.specs.Paths.{IsAdmissible}
-use Rattle.aeth_app.specs.App.{AppData}
-use Rattle.aeth_app.proofs.AppLemmas.{position_of-few}
-use Rattle.aeth_app.specs.Connections.{sender}
+use Rattle.std.specs.List.{range_with_len}
+use Rattle.aeth_base.specs.declared.ids.{LinkId.LinkId, NiId.NiId, Side.Side, Side.TheVariants.Back}
+use Rattle.aeth_base.specs.declared.ids.{Side.TheVariants.Fwd, Unit.Unit as GroupUnit, UseId.UseId}
+use Rattle.aeth_slots.proofs.{Ascending.Ascends-filter, TestLemmas.Ascends-slots}
+use Rattle.aeth_server.specs.{ChannelShape.IsShapeInRange, declared.shape.ChannelShape.ChannelShape}
+use Rattle.aeth_chip.specs.{Chip.ChipData, Paths.IsAdmissible}
+use Rattle.aeth_app.{specs.App.AppData, proofs.AppLemmas.position_of-few, specs.Connections.sender}
 use Rattle.aeth_group.specs.Members.{group_at, groups_of, has_at}
 use Rattle.aeth_group.specs.declared.grant.Grant.{Grant}
-use Rattle.aeth_ni.specs.Limits.{queues_of_interface}
-use Rattle.aeth_ni.specs.declared.row.ChannelRow.{ChannelRow}
-use Rattle.aeth_plan.specs.Plan.{PlanData}
-use Rattle.aeth_plan.specs.Design.{IsDesign}
+use Rattle.aeth_ni.specs.{Limits.queues_of_interface, declared.row.ChannelRow.ChannelRow}
+use Rattle.aeth_plan.specs.{Plan.PlanData, Design.IsDesign}
 use Rattle.aeth_trace.specs.Channels.{side_number}
 use Rattle.aeth_tables.specs.Granted.{channels_with, grant_on, granted_in, other_side}
 use Rattle.aeth_tables.specs.Granted.{receiving_seat, sending_seat}
-use Rattle.aeth_tables.specs.Promises.{HasNumbers, HasOpposite, HaveOwnQueues}
-use Rattle.aeth_tables.specs.Promises.{HaveOwnSlots, IsMet, KeepPromises, LeadsTo}
+use Rattle.aeth_tables.specs.Promises.{HasNumbers, HasOpposite, HaveOwnQueues, HaveOwnSlots, IsMet}
+use Rattle.aeth_tables.specs.Promises.{KeepPromises, LeadsTo}
 use Rattle.aeth_tables.specs.TableText.{IsPrintable, IsRowOf}
 use Rattle.aeth_tables.specs.Tables.{queue_at, row_on, shape_on, tables_of}
 use Rattle.aeth_tables.specs.declared.granted.GrantedConnection.{GrantedConnection}

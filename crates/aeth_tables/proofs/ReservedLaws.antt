@@ -1,34 +1,23 @@
 -- By an accepted plan each connection of a use case has its seats and grants.
-use Rattle.std.proofs.Common.{◌≡◌, ◌∙◌, ◌<◌, ℕ, true, eqb, List, [], ◌∷◌, Option}
-use Rattle.std.proofs.Common.{Some, None, slice_get, length, refl, sym, ap}
-use Rattle.std.proofs.Common.{inl, inr}
-use Rattle.std.specs.Prelude.{option_and_then, option_map}
-use Rattle.std.proofs.lemmas.Bool.{and_parts, cases_Bool, eq-eqb, eqb-true}
-use Rattle.std.proofs.lemmas.List.Elements.{All-from_recursion}
-use Rattle.std.proofs.lemmas.Option.{none-some, same_Some}
-use Rattle.aeth_base.specs.declared.ids.CoreId.{CoreId}
-use Rattle.aeth_base.specs.declared.ids.NiId.{NiId}
-use Rattle.aeth_base.specs.declared.ids.Side.{Side}
-use Rattle.aeth_base.specs.declared.ids.Side.TheVariants.{Back, Fwd}
-use Rattle.aeth_base.specs.declared.ids.Unit.{Unit as GroupUnit}
-use Rattle.aeth_chip.specs.Chip.{ChipData}
-use Rattle.aeth_app.specs.App.{AppData}
-use Rattle.aeth_app.specs.declared.connection.Connection.{Connection}
-use Rattle.aeth_app.specs.Connections.{receiver, sender}
-use Rattle.aeth_group.specs.Members.{groups_of}
-use Rattle.aeth_group.specs.declared.grant.Grant.{Grant}
-use Rattle.aeth_group.specs.declared.grant.SeatLine.{SeatLine}
-use Rattle.aeth_plan.specs.Plan.{IsGrantOf, IsSeatOf, PlanData}
-use Rattle.aeth_plan.specs.UnitGrants.{is_for}
-use Rattle.aeth_plan.specs.Seated.{ni_of}
-use Rattle.aeth_plan.specs.Design.{IsDesign}
+use Rattle.std.proofs.Common.{◌≡◌, ◌∙◌, ◌<◌, ℕ, true, eqb, List, [], ◌∷◌, Option, Some, None}
+use Rattle.std.proofs.Common.{slice_get, length, refl, sym, ap, inl, inr, option_and_then}
+use Rattle.std.proofs.Common.{option_map, eq-eqb, eqb-true}
+use Rattle.std.proofs.lemmas.{Bool.and_parts, Bool.cases_Bool, List.Elements.All-from_recursion}
+use Rattle.std.proofs.lemmas.{Option.none-some, Option.same_Some}
+use Rattle.aeth_base.specs.declared.ids.{CoreId.CoreId, NiId.NiId, Side.Side, Side.TheVariants.Back}
+use Rattle.aeth_base.specs.declared.ids.{Side.TheVariants.Fwd, Unit.Unit as GroupUnit}
 use Rattle.aeth_base.proofs.SideLemmas.{same_side-is, same_side-itself}
-use Rattle.aeth_tables.specs.Granted.{grant_of, granted_of, granted_with, line_of}
-use Rattle.aeth_tables.specs.Granted.{unit_in}
+use Rattle.aeth_chip.specs.Chip.{ChipData}
+use Rattle.aeth_app.specs.{App.AppData, declared.connection.Connection.Connection}
+use Rattle.aeth_app.specs.{Connections.receiver, Connections.sender}
+use Rattle.aeth_group.specs.Members.{groups_of}
+use Rattle.aeth_group.specs.declared.grant.{Grant.Grant, SeatLine.SeatLine}
+use Rattle.aeth_plan.specs.{Plan.IsGrantOf, Plan.IsSeatOf, Plan.PlanData, UnitGrants.is_for}
+use Rattle.aeth_plan.specs.{Seated.ni_of, Design.IsDesign}
+use Rattle.aeth_tables.specs.Granted.{grant_of, granted_of, granted_with, line_of, unit_in}
 use Rattle.aeth_tables.specs.Reserved.{IsSeated, IsServed}
 use Rattle.aeth_tables.specs.declared.granted.GrantedConnection.{GrantedConnection}
-use Rattle.aeth_tables.proofs.FindLaws.{found_is}
-use Rattle.aeth_tables.proofs.ListLaws.{all_has_by}
+use Rattle.aeth_tables.proofs.{FindLaws.found_is, ListLaws.all_has_by}
 
 -- ---- What a connection is made of
 

@@ -1,24 +1,19 @@
 -- Lists that rise by a test, in which at most one item passes another: where it is found.
 use Rattle.std.proofs.Common.{◌≡◌, ◌∙◌, ◌<◌, ◌≤◌, ℕ, zero, suc, Bool, true, false, cond, List, []}
-use Rattle.std.proofs.Common.{◌∷◌, Some, None, length, slice_get, get_or, refl, sym, ap, subst}
-use Rattle.std.proofs.Common.{inl, inr, arith}
-use Rattle.std.proofs.lemmas.Bool.{and_parts, cases_Bool, cases_lt, eqb-true}
-use Rattle.std.proofs.lemmas.Bool.{false_from_ne_true, false≢true}
+use Rattle.std.proofs.Common.{◌∷◌, Some, None, length, slice_get, get_or, refl, sym, ap, subst, inl}
+use Rattle.std.proofs.Common.{inr, arith, eqb-true, find, nat_lt, ◌==◌}
+use Rattle.std.proofs.lemmas.Bool.{and_parts, cases_Bool, cases_lt, false_from_ne_true, false≢true}
 use Rattle.std.proofs.lemmas.Bool.Decides.{nat_tests}
 use Rattle.std.proofs.lemmas.Option.{get_or_from_slice_get, same_Some, slice_get-get_or}
 use Rattle.std.proofs.lemmas.Option.{slice_get_within}
-use Rattle.std.specs.Prelude.{find, nat_lt, ◌==◌}
 use Rattle.std.specs.List.Sorted.{IsPartitionPoint, IsPartitionedBy}
-use Rattle.aeth_base.specs.declared.ids.CoreId.{CoreId}
-use Rattle.aeth_base.specs.declared.ids.Side.{Side}
-use Rattle.aeth_base.specs.declared.ids.Unit.{Unit as GroupUnit}
+use Rattle.aeth_base.specs.declared.ids.{CoreId.CoreId, Side.Side, Unit.Unit as GroupUnit}
 use Rattle.aeth_base.proofs.SideLemmas.{same_side-is}
-use Rattle.aeth_group.specs.declared.grant.Grant.{Grant}
-use Rattle.aeth_group.specs.declared.grant.SeatLine.{SeatLine}
+use Rattle.aeth_group.specs.declared.grant.{Grant.Grant, SeatLine.SeatLine}
 use Rattle.aeth_text.specs.Order.{Rises, RisesAfter}
 use Rattle.aeth_plan.specs.Plan.{grant_before, seat_before}
-use Rattle.aeth_plan.proofs.MadePlans.{before_trans, same_number, side_before-itself}
 use Rattle.aeth_plan.specs.UnitGrants.{is_before, is_for, sought}
+use Rattle.aeth_plan.proofs.MadePlans.{before_trans, same_number, side_before-itself}
 use Rattle.aeth_tables.specs.Granted.{grant_of, line_of}
 use Rattle.aeth_tables.proofs.FindLaws.{find-at, find-none}
 

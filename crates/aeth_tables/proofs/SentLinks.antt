@@ -1,20 +1,14 @@
 -- Routers send on each link of a path but the first.
-use Rattle.std.proofs.Common.{◌≡◌, ◌∙◌, ℕ, zero, suc, List, [], ◌∷◌, ◌++◌, Some}
-use Rattle.std.proofs.Common.{◌≤◌}
-use Rattle.std.proofs.Common.{slice_get, length, map, drop, ap, subst, arith}
-use Rattle.aeth_base.specs.Limits.{max_path_links, min_path_links}
-use Rattle.std.specs.Prelude.{option_and_then}
+use Rattle.std.proofs.Common.{◌≡◌, ◌∙◌, ℕ, zero, suc, List, [], ◌∷◌, ◌++◌, Some, ◌≤◌, slice_get}
+use Rattle.std.proofs.Common.{length, map, drop, ap, subst, arith, option_and_then}
 use Rattle.std.proofs.lemmas.Option.{none-some, same_Some}
-use Rattle.aeth_base.specs.declared.ids.LinkId.{LinkId}
-use Rattle.aeth_base.specs.declared.ids.NiId.{NiId}
-use Rattle.aeth_base.specs.declared.ids.RouterId.{RouterId}
-use Rattle.aeth_chip.specs.Joined.{IsJoined}
-use Rattle.aeth_chip.specs.Nodes.{router_of, sender_of}
-use Rattle.aeth_chip.specs.Paths.{BeginsAt, IsAdmissible, Joins, ends_of, to_of}
-use Rattle.aeth_chip.specs.declared.node.Link.{Link}
-use Rattle.aeth_chip.specs.declared.node.Node.{Node}
-use Rattle.aeth_chip.specs.declared.node.Node.TheVariants.{Ni, Router}
-use Rattle.aeth_chip.proofs.JoinedLaws.{joins-length}
+use Rattle.aeth_base.specs.Limits.{max_path_links, min_path_links}
+use Rattle.aeth_base.specs.declared.ids.{LinkId.LinkId, NiId.NiId, RouterId.RouterId}
+use Rattle.aeth_chip.{specs.Joined.IsJoined, specs.Nodes.router_of, specs.Nodes.sender_of}
+use Rattle.aeth_chip.{specs.Paths.BeginsAt, specs.Paths.IsAdmissible, specs.Paths.Joins}
+use Rattle.aeth_chip.{specs.Paths.ends_of, specs.Paths.to_of, specs.declared.node.Link.Link}
+use Rattle.aeth_chip.{specs.declared.node.Node.Node, specs.declared.node.Node.TheVariants.Ni}
+use Rattle.aeth_chip.{specs.declared.node.Node.TheVariants.Router, proofs.JoinedLaws.joins-length}
 
 -- A router sends on a link that begins there.
 pub sent_from : (links : List Link) (link : LinkId) (router : RouterId)

@@ -1,31 +1,23 @@
 -- The shapes of channels by an accepted plan meet the condition on shapes.
-use Rattle.std.proofs.Common.{◌∙◌, ◌≤◌, ◌<◌, ◌*◌, List, [], ◌∷◌, All}
-use Rattle.std.proofs.Common.{length, refl, sym, arith}
-use Rattle.std.proofs.lemmas.List.Elements.{All-head, All-tail}
-use Rattle.std.proofs.lemmas.List.Sums.{sum_by-cons}
+use Rattle.std.proofs.Common.{◌∙◌, ◌≤◌, ◌<◌, ◌*◌, List, [], ◌∷◌, All, length, refl, sym, arith}
+use Rattle.std.proofs.lemmas.List.{Elements.All-head, Elements.All-tail, Sums.sum_by-cons}
 use Rattle.aeth_base.specs.Limits.{credits_per_flit, max_path_delay, max_path_links}
 use Rattle.aeth_base.specs.Limits.{max_queue_words, min_path_links, words_per_flit}
+use Rattle.aeth_base.specs.declared.ids.LinkId.{LinkId}
+use Rattle.aeth_base.specs.declared.ids.Side.{Side, TheVariants.Back, TheVariants.Fwd}
 use Rattle.aeth_slots.specs.SlotSet.{IsSlotSet}
-use Rattle.aeth_server.specs.ChannelShape.{shape_of}
+use Rattle.aeth_server.specs.ChannelShape.{shape_of, IsShapeInRange}
 use Rattle.aeth_server.specs.Shape.{buffer_of, round_trip}
 use Rattle.aeth_server.proofs.LatencyLemmas.{latency_of-within}
 use Rattle.aeth_server.proofs.ShapeLemmas.{buffer-most, need-most}
-use Rattle.aeth_base.specs.declared.ids.LinkId.{LinkId}
-use Rattle.aeth_base.specs.declared.ids.Side.{Side}
-use Rattle.aeth_base.specs.declared.ids.Side.TheVariants.{Back, Fwd}
-use Rattle.aeth_server.specs.ChannelShape.{IsShapeInRange}
-use Rattle.aeth_chip.specs.Chip.{ChipData, IsChip}
-use Rattle.aeth_chip.specs.Paths.{delay_of, path_delay}
+use Rattle.aeth_chip.specs.{Chip.ChipData, Chip.IsChip, Paths.delay_of, Paths.path_delay}
 use Rattle.aeth_chip.proofs.OffsetLemmas.{delay_of-range, offset-most, offset_all}
 use Rattle.aeth_app.specs.App.{AppData, IsApp, IsConnection, IsWish, wish_of}
 use Rattle.aeth_app.proofs.NeedLemmas.{need_of-some}
 use Rattle.aeth_group.proofs.ListLemmas.{all_at}
-use Rattle.aeth_tables.specs.Granted.{grant_on, other_side}
-use Rattle.aeth_tables.specs.Reserved.{IsReserved}
-use Rattle.aeth_tables.specs.Tables.{shape_on}
-use Rattle.aeth_tables.specs.declared.granted.GrantedConnection.{GrantedConnection}
-use Rattle.aeth_tables.proofs.CreditNeeds.{credits_carried}
-use Rattle.aeth_tables.proofs.SentLinks.{path_links}
+use Rattle.aeth_tables.specs.{Granted.grant_on, Granted.other_side, Reserved.IsReserved}
+use Rattle.aeth_tables.specs.{Tables.shape_on, declared.granted.GrantedConnection.GrantedConnection}
+use Rattle.aeth_tables.proofs.{CreditNeeds.credits_carried, SentLinks.path_links}
 
 -- A path takes at least as many cycles as it has links.
 path_delay-least : (chip : ChipData) → IsChip chip → (path : List LinkId)

@@ -1,19 +1,12 @@
 -- Rows of one interface share no slot: their grants would conflict on the link that leaves it.
-use Rattle.std.proofs.Common.{◌≡◌, ◌<◌, ◌+◌, ◌%◌, ◌∙◌, ◌&&◌, ℕ, zero, suc, true, eqb, List, []}
-use Rattle.std.proofs.Common.{◌∷◌, Some, Contains, slice_get, length, refl, sym, ap, arith}
-use Rattle.std.proofs.Common.{subst, take, add-zero, zero-add}
-use Rattle.std.specs.Prelude.{count_by}
-use Rattle.std.proofs.lemmas.Bool.{and_from, eq-eqb}
-use Rattle.std.proofs.lemmas.Option.{none-some, same_Some}
-use Rattle.aeth_base.specs.declared.ids.LinkId.{LinkId}
-use Rattle.aeth_base.specs.declared.ids.NiId.{NiId}
-use Rattle.aeth_base.specs.declared.ids.Unit.{Unit as GroupUnit}
-use Rattle.aeth_chip.specs.Chip.{ChipData}
-use Rattle.aeth_chip.specs.Nodes.{begins_at, same_node, sends_on}
-use Rattle.aeth_chip.specs.Paths.{BeginsAt, IsAdmissible}
-use Rattle.aeth_chip.specs.declared.node.Link.{Link}
-use Rattle.aeth_chip.specs.declared.node.Node.{Node}
-use Rattle.aeth_chip.specs.declared.node.Node.TheVariants.{Ni}
+use Rattle.std.proofs.Common.{◌≡◌, ◌<◌, ◌+◌, ◌%◌, ◌∙◌, ◌&&◌, ℕ, zero, suc, true, eqb, List, [], ◌∷◌}
+use Rattle.std.proofs.Common.{Some, Contains, slice_get, length, refl, sym, ap, arith, subst, take}
+use Rattle.std.proofs.Common.{add-zero, zero-add, count_by, eq-eqb}
+use Rattle.std.proofs.lemmas.{Bool.and_from, Option.none-some, Option.same_Some}
+use Rattle.aeth_base.specs.declared.ids.{LinkId.LinkId, NiId.NiId, Unit.Unit as GroupUnit}
+use Rattle.aeth_chip.specs.{Chip.ChipData, Nodes.begins_at, Nodes.same_node, Nodes.sends_on}
+use Rattle.aeth_chip.specs.{Paths.BeginsAt, Paths.IsAdmissible, declared.node.Link.Link}
+use Rattle.aeth_chip.specs.{declared.node.Node.Node, declared.node.Node.TheVariants.Ni}
 use Rattle.aeth_chip.proofs.NodeLemmas.{numbers_from-at, same_node-refl}
 use Rattle.aeth_chip.proofs.OffsetLemmas.{offset-zero}
 use Rattle.aeth_app.specs.App.{AppData}
@@ -23,11 +16,9 @@ use Rattle.aeth_group.specs.Occupation.{Occupies, holds_in, occupies}
 use Rattle.aeth_group.specs.declared.grant.Grant.{Grant}
 use Rattle.aeth_group.proofs.ConflictLemmas.{conflict-sym, conflict_from_held}
 use Rattle.aeth_group.proofs.OccupationLemmas.{occupies-Decides}
-use Rattle.aeth_plan.specs.Plan.{PlanData}
-use Rattle.aeth_plan.specs.Design.{IsDesign}
+use Rattle.aeth_plan.specs.{Plan.PlanData, Design.IsDesign}
 use Rattle.aeth_tables.specs.Granted.{unit_in}
-use Rattle.aeth_tables.proofs.ApartLaws.{one_item}
-use Rattle.aeth_tables.proofs.SentLinks.{begins_there, path_links}
+use Rattle.aeth_tables.proofs.{ApartLaws.one_item, SentLinks.begins_there, SentLinks.path_links}
 
 one_only : (x place y : ℕ) → slice_get (x ∷ []) place ≡ Some y → y ≡ x
 one_only x zero y at = sym (same_Some x y at)

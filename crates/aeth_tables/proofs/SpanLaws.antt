@@ -1,18 +1,15 @@
 -- The lag and the writes of switches, by what each connection adds.
-use Rattle.std.proofs.Common.{◌≡◌, ◌<◌, ◌≤◌, ◌+◌, ◌++◌, ◌∙◌, ℕ, zero, suc, Bool, true, false}
-use Rattle.std.proofs.Common.{List, [], ◌∷◌, length, map, max, not, refl, sym, ap, inl, inr}
-use Rattle.std.proofs.Common.{Some, append_assoc, arith, drop, get_or}
-use Rattle.std.specs.Prelude.{flat_map, sum_by}
-use Rattle.std.specs.List.{range_with_len}
+use Rattle.std.proofs.Common.{◌≡◌, ◌<◌, ◌≤◌, ◌+◌, ◌++◌, ◌∙◌, ℕ, zero, suc, Bool, true, false, List}
+use Rattle.std.proofs.Common.{[], ◌∷◌, length, map, max, not, refl, sym, ap, inl, inr, Some}
+use Rattle.std.proofs.Common.{append_assoc, arith, drop, get_or, flat_map, sum_by}
 use Rattle.std.proofs.lemmas.Bool.{cases_Bool}
-use Rattle.std.proofs.lemmas.List.{drop_more}
-use Rattle.std.proofs.lemmas.List.Concat.{flat_map-cons}
-use Rattle.std.proofs.lemmas.List.Sums.{sum_by-append, sum_by-cons}
-use Rattle.std.proofs.lemmas.List.FromFn.{get_or-map-range_with_len, map-range_with_len_more}
+use Rattle.std.proofs.lemmas.List.{drop_more, Concat.flat_map-cons, Sums.sum_by-append}
+use Rattle.std.proofs.lemmas.List.{Sums.sum_by-cons, FromFn.get_or-map-range_with_len}
+use Rattle.std.proofs.lemmas.List.{FromFn.map-range_with_len_more}
 use Rattle.std.proofs.lemmas.Option.{get_or_from_slice_get, slice_get-get_or}
+use Rattle.std.specs.List.{range_with_len}
 use Rattle.aeth_slots.specs.SlotSet.{greatest}
-use Rattle.aeth_chip.specs.Chip.{ChipData}
-use Rattle.aeth_chip.specs.Paths.{path_delay}
+use Rattle.aeth_chip.specs.{Chip.ChipData, Paths.path_delay}
 use Rattle.aeth_app.specs.App.{AppData}
 use Rattle.aeth_group.specs.Members.{GroupsData, is_kept}
 use Rattle.aeth_plan.specs.Plan.{PlanData}
@@ -22,9 +19,9 @@ use Rattle.aeth_tables.specs.Changes.{writes_in}
 use Rattle.aeth_tables.specs.Granted.{granted_in}
 use Rattle.aeth_tables.specs.Switching.{changing, delays_in, lag_of, rows_in, spans_from, writes_of}
 use Rattle.aeth_tables.specs.Tables.{row_on, rows_on}
-use Rattle.aeth_base.specs.declared.ids.Side.TheVariants.{Back, Fwd}
 use Rattle.aeth_tables.specs.declared.changes.Change.{Change}
 use Rattle.aeth_tables.specs.declared.granted.GrantedConnection.{GrantedConnection}
+use Rattle.aeth_base.specs.declared.ids.Side.TheVariants.{Back, Fwd}
 
 -- ---- Lists over a range
 

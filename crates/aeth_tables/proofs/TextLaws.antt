@@ -1,15 +1,11 @@
 -- Lines that are printed one after the other.
-use Rattle.std.proofs.Common.{◌≡◌, ◌∙◌, ◌+◌, ◌++◌, ℕ, List, [], ◌∷◌, All, append_assoc, sym, ap, arith}
-use Rattle.std.proofs.Common.{◌<◌, Bool, true, false, cond, add-one, drop, filter, get_or, length, map}
-use Rattle.std.proofs.Common.{zero-add, refl}
-use Rattle.std.specs.Prelude.{flat_map}
-use Rattle.std.specs.Prelude.{◌||◌}
+use Rattle.std.proofs.Common.{◌≡◌, ◌∙◌, ◌+◌, ◌++◌, ℕ, List, [], ◌∷◌, All, append_assoc, sym, ap}
+use Rattle.std.proofs.Common.{arith, ◌<◌, Bool, true, false, cond, add-one, drop, filter, get_or}
+use Rattle.std.proofs.Common.{length, map, zero-add, refl, flat_map, ◌||◌, append-nil}
+use Rattle.std.proofs.lemmas.{Bool.false≢true, Grind.flat_map-append, List.drop_more}
+use Rattle.std.proofs.lemmas.{List.Elements.All-cons, List.Elements.All-head}
+use Rattle.std.proofs.lemmas.{List.Elements.All-tail, List.Concat.flat_map-cons}
 use Rattle.std.specs.List.{list_any, range_with_len}
-use Rattle.std.proofs.lemmas.Bool.{false≢true}
-use Rattle.std.proofs.lemmas.Grind.{flat_map-append}
-use Rattle.std.proofs.lemmas.List.{append-nil, drop_more}
-use Rattle.std.proofs.lemmas.List.Elements.{All-cons, All-head, All-tail}
-use Rattle.std.proofs.lemmas.List.Concat.{flat_map-cons}
 use Rattle.aeth_base.proofs.Ranges.{range_with_len-more}
 use Rattle.aeth_server.specs.declared.shape.ChannelShape.{ChannelShape}
 use Rattle.aeth_text.specs.Spelling.{ended_line, text_of_lines}

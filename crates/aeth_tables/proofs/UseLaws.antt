@@ -1,38 +1,29 @@
 -- The connections of a use case by an accepted plan: each is there, with its seats and grants.
-use Rattle.std.proofs.Common.{◌≡◌, ◌∙◌, ◌<◌, ℕ, true, eqb, [], Option}
-use Rattle.std.proofs.Common.{Some, None, Contains, slice_get, length, filter, refl, sym, ap}
-use Rattle.std.proofs.Common.{map, subst, arith, ◌&&◌}
+use Rattle.std.proofs.Common.{◌≡◌, ◌∙◌, ◌<◌, ℕ, true, eqb, [], Option, Some, None, Contains}
+use Rattle.std.proofs.Common.{slice_get, length, filter, refl, sym, ap, map, subst, arith, ◌&&◌}
+use Rattle.std.proofs.Common.{eq-eqb}
+use Rattle.std.proofs.lemmas.{Bool.false≢true, Option.slice_get-get_or}
 use Rattle.std.specs.List.{range_with_len}
-use Rattle.std.proofs.lemmas.Bool.{eq-eqb, false≢true}
-use Rattle.std.proofs.lemmas.Option.{slice_get-get_or}
-use Rattle.aeth_base.proofs.Members.{filter-Contains, filter_map-Contains}
-use Rattle.aeth_base.proofs.Ranges.{All-range}
-use Rattle.aeth_base.specs.declared.ids.CoreId.{CoreId}
-use Rattle.aeth_base.specs.declared.ids.Side.{Side}
-use Rattle.aeth_base.specs.declared.ids.Side.TheVariants.{Back, Fwd}
-use Rattle.aeth_base.specs.declared.ids.Unit.{Unit as GroupUnit}
+use Rattle.aeth_base.proofs.{Members.filter-Contains, Members.filter_map-Contains, Ranges.All-range}
+use Rattle.aeth_base.specs.declared.ids.{CoreId.CoreId, Side.Side, Side.TheVariants.Back}
+use Rattle.aeth_base.specs.declared.ids.{Side.TheVariants.Fwd, Unit.Unit as GroupUnit}
 use Rattle.aeth_chip.specs.Chip.{ChipData}
 use Rattle.aeth_app.specs.App.{AppData, is_marked}
 use Rattle.aeth_group.specs.Members.{GroupsData, IsGroups, UseGroupData, group_at, group_in}
 use Rattle.aeth_group.specs.Members.{groups_of, has_at, is_member, use_has}
-use Rattle.aeth_group.specs.declared.grant.SeatLine.{SeatLine}
-use Rattle.aeth_group.specs.declared.grant.Grant.{Grant}
-use Rattle.aeth_group.proofs.ListLemmas.{any_from_passes}
-use Rattle.aeth_group.proofs.MemberLemmas.{connections-groups_of, is_groups-groups_of}
-use Rattle.aeth_group.proofs.MemberLemmas.{length-groups_of}
-use Rattle.aeth_group.proofs.UnitLemmas.{units_from_unit}
-use Rattle.aeth_plan.specs.Plan.{PlanData}
-use Rattle.aeth_plan.specs.Design.{IsDesign}
-use Rattle.aeth_plan.specs.UnitGrants.{is_for}
-use Rattle.aeth_tables.specs.Granted.{grant_of, granted_in, granted_of, line_of}
-use Rattle.aeth_tables.specs.Granted.{unit_in}
+use Rattle.aeth_group.specs.declared.grant.{SeatLine.SeatLine, Grant.Grant}
+use Rattle.aeth_group.proofs.{ListLemmas.any_from_passes, MemberLemmas.connections-groups_of}
+use Rattle.aeth_group.proofs.{MemberLemmas.is_groups-groups_of, MemberLemmas.length-groups_of}
+use Rattle.aeth_group.proofs.{UnitLemmas.units_from_unit}
+use Rattle.aeth_plan.specs.{Plan.PlanData, Design.IsDesign, UnitGrants.is_for}
+use Rattle.aeth_tables.specs.Granted.{grant_of, granted_in, granted_of, line_of, unit_in}
 use Rattle.aeth_tables.specs.Reserved.{IsPlanned, IsReserved}
 use Rattle.aeth_tables.specs.declared.granted.GrantedConnection.{GrantedConnection}
 use Rattle.aeth_tables.proofs.FindLaws.{found_is, found_some}
 use Rattle.aeth_tables.proofs.ListLaws.{all_has, has_place}
 use Rattle.aeth_tables.proofs.PlaceLaws.{keys_of_given}
-use Rattle.aeth_tables.proofs.ReservedLaws.{IsMade, for_from, grant_serves, line_from_ni, line_seats}
-use Rattle.aeth_tables.proofs.ReservedLaws.{made_of, made_there, of_from}
+use Rattle.aeth_tables.proofs.ReservedLaws.{IsMade, for_from, grant_serves, line_from_ni}
+use Rattle.aeth_tables.proofs.ReservedLaws.{line_seats, made_of, made_there, of_from}
 
 no_use : UseGroupData
 no_use = record { group = 0; has = [] }

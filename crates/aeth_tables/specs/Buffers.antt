@@ -4,20 +4,17 @@
 --   buffers_at, buffers_for, buffers_in      of a connection that is granted, in a group, and in all
 --   buffers_of      of all connections
 -- Buffers at the receiving interface: after Æthereal (2005).
-use Rattle.std.specs.Prelude.{ℕ, List, [], ◌∷◌, Option, Some, None, flat_map, if◌then◌else◌, length}
+use Rattle.std.proofs.Common.{ℕ, List, [], ◌∷◌, Option, Some, None, flat_map, if◌then◌else◌, length}
 use Rattle.std.specs.List.{range_with_len}
-use Rattle.aeth_base.specs.declared.ids.Side.{Side}
-use Rattle.aeth_base.specs.declared.ids.Side.TheVariants.{Fwd, Back}
-use Rattle.aeth_server.specs.ChannelShape.{shape_of}
-use Rattle.aeth_server.specs.Shape.{buffer_of}
+use Rattle.aeth_base.specs.declared.ids.Side.{Side, TheVariants.Fwd, TheVariants.Back}
+use Rattle.aeth_server.specs.{ChannelShape.shape_of, Shape.buffer_of}
 use Rattle.aeth_chip.specs.Chip.{ChipData}
 use Rattle.aeth_app.specs.App.{AppData}
 use Rattle.aeth_group.specs.Members.{GroupsData, is_member}
 use Rattle.aeth_plan.specs.Plan.{PlanData}
-use Rattle.aeth_tables.specs.Granted.{granted_of, receiving_seat}
-use Rattle.aeth_tables.specs.Tables.{queue_at, shape_on}
-use Rattle.aeth_tables.specs.declared.buffering.Buffer.{Buffer}
-use Rattle.aeth_tables.specs.declared.granted.GrantedConnection.{GrantedConnection}
+use Rattle.aeth_tables.specs.{Granted.granted_of, Granted.receiving_seat, Tables.queue_at}
+use Rattle.aeth_tables.specs.{Tables.shape_on, declared.buffering.Buffer.Buffer}
+use Rattle.aeth_tables.specs.{declared.granted.GrantedConnection.GrantedConnection}
 
 -- What the channel of a side needs: the queue at which it lands, and the words for which this must have
 -- room.

@@ -6,16 +6,14 @@
 --   changes_at, spans_in      what is added to all switches from a use case
 --   most_writes, AreFew      how much that is at most
 -- This project's own.
-use Rattle.std.specs.Prelude.{◌<◌, ◌≤◌, ℕ, ◌+◌, ◌*◌, not, List, [], All, filter, length, map, max}
-use Rattle.std.specs.Prelude.{sum_by}
+use Rattle.std.proofs.Common.{◌<◌, ◌≤◌, ℕ, ◌+◌, ◌*◌, not, List, [], All, filter, length, map, max}
+use Rattle.std.proofs.Common.{sum_by}
 use Rattle.std.specs.List.{range_with_len, slice_index_or}
 use Rattle.aeth_base.specs.Limits.{max_slots}
 use Rattle.aeth_slots.specs.SlotSet.{greatest}
-use Rattle.aeth_chip.specs.Chip.{ChipData}
-use Rattle.aeth_chip.specs.Paths.{path_delay}
+use Rattle.aeth_chip.specs.{Chip.ChipData, Paths.path_delay}
 use Rattle.aeth_app.specs.Limits.{max_connections}
-use Rattle.aeth_group.specs.Members.{GroupsData, is_kept}
-use Rattle.aeth_group.specs.declared.grant.Grant.{Grant}
+use Rattle.aeth_group.specs.{Members.GroupsData, Members.is_kept, declared.grant.Grant.Grant}
 use Rattle.aeth_tables.specs.declared.changes.Change.{Change}
 use Rattle.aeth_tables.specs.declared.granted.GrantedConnection.{GrantedConnection}
 

@@ -5,23 +5,17 @@
 --   sending_seat, receiving_seat, grant_on      the two sides of such a connection
 --   channels_of      the channels of a use case
 -- Connections with a channel each way: after Æthereal (2005). Seats: this project's own.
-use Rattle.std.specs.Prelude.{ℕ, ◌==◌, List, Option, Some, None, filter, find, flat_map, slice_get}
-use Rattle.std.specs.Option.{option_and_then}
-use Rattle.std.specs.List.{filter_map, range_with_len}
-pub use Rattle.aeth_base.specs.Sides.{channels_with, other_side}
-use Rattle.aeth_base.specs.declared.ids.Channel.{Channel}
-use Rattle.aeth_base.specs.declared.ids.CoreId.{CoreId}
-use Rattle.aeth_base.specs.declared.ids.Side.{Side}
-use Rattle.aeth_base.specs.declared.ids.Side.TheVariants.{Fwd, Back}
-use Rattle.aeth_base.specs.declared.ids.Unit.{Unit as GroupUnit}
-use Rattle.aeth_app.specs.App.{AppData}
-use Rattle.aeth_app.specs.declared.connection.Connection.{Connection}
+use Rattle.std.proofs.Common.{ℕ, ◌==◌, List, Option, Some, None, filter, find, flat_map, slice_get}
+use Rattle.std.specs.{Option.option_and_then, List.filter_map, List.range_with_len}
+use Rattle.aeth_base.specs.declared.ids.{Channel.Channel, CoreId.CoreId, Side.Side}
+use Rattle.aeth_base.specs.declared.ids.{Side.TheVariants.Fwd, Side.TheVariants.Back}
+use Rattle.aeth_base.specs.declared.ids.{Unit.Unit as GroupUnit}
+use Rattle.aeth_app.specs.{App.AppData, declared.connection.Connection.Connection}
 use Rattle.aeth_group.specs.Members.{GroupsData, group_at, has_at}
-use Rattle.aeth_group.specs.declared.grant.Grant.{Grant}
-use Rattle.aeth_group.specs.declared.grant.SeatLine.{SeatLine}
-use Rattle.aeth_plan.specs.Plan.{PlanData}
-use Rattle.aeth_plan.specs.UnitGrants.{is_for}
+use Rattle.aeth_group.specs.declared.grant.{Grant.Grant, SeatLine.SeatLine}
+use Rattle.aeth_plan.specs.{Plan.PlanData, UnitGrants.is_for}
 use Rattle.aeth_tables.specs.declared.granted.GrantedConnection.{GrantedConnection}
+pub use Rattle.aeth_base.specs.Sides.{channels_with, other_side}
 
 -- The line that seats a core, if one does.
 abbrev pub line_of : List SeatLine → CoreId → Option SeatLine

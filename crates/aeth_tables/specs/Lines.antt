@@ -3,11 +3,10 @@
 --   head_line, entry_line      the first line, and that of an entry
 --   numbers_words, promise_words, queue_line      that of a queue
 -- This project's own.
-use Rattle.std.specs.Prelude.{ℕ, List, [], ◌∷◌, codes, decimal}
+use Rattle.std.proofs.Common.{ℕ, List, [], ◌∷◌, codes, decimal}
 use Rattle.std.specs.List.{join_with_byte}
 use Rattle.aeth_ni.specs.declared.row.ChannelRow.{ChannelRow}
-use Rattle.aeth_text.specs.Limits.{space}
-use Rattle.aeth_text.specs.Spelling.{side_word}
+use Rattle.aeth_text.specs.{Limits.space, Spelling.side_word}
 use Rattle.aeth_tables.specs.declared.promised.PromisedRow.{PromisedRow}
 
 -- `tables 1 USE`.

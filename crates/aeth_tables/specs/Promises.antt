@@ -7,33 +7,24 @@
 --   IsMet      a channel's need is met
 --   KeepPromises      all that the tables promise
 -- Slot tables and source routing: after Æthereal (2005). The rest: this project's own.
-use Rattle.std.specs.Prelude.{◌≡◌, ◌<◌, ◌≤◌, ◌+◌, ◌*◌, ◌^◌, ◌/◌, ◌%◌, ◌-◌, ℕ, List, All, Contains}
-use Rattle.std.specs.Prelude.{Some, length, map, slice_get}
+use Rattle.std.proofs.Common.{◌≡◌, ◌<◌, ◌≤◌, ◌+◌, ◌*◌, ◌^◌, ◌/◌, ◌%◌, ◌-◌, ℕ, List, All, Contains}
+use Rattle.std.proofs.Common.{Some, length, map, slice_get}
 use Rattle.aeth_base.specs.Limits.{max_queue_words}
-use Rattle.aeth_base.specs.declared.ids.LinkId.{LinkId}
-use Rattle.aeth_base.specs.declared.ids.NiId.{NiId}
-use Rattle.aeth_base.specs.declared.ids.RouterId.{RouterId}
+use Rattle.aeth_base.specs.declared.ids.{LinkId.LinkId, NiId.NiId, RouterId.RouterId}
 use Rattle.aeth_slots.specs.Choice.{IsSuitable}
 use Rattle.aeth_header.specs.Layout.{port_bits, route_bits}
-use Rattle.aeth_server.specs.ChannelShape.{IsShapeInRange, shape_of}
-use Rattle.aeth_server.specs.Shape.{buffer_of}
-use Rattle.aeth_server.specs.declared.shape.ChannelShape.{ChannelShape}
-use Rattle.aeth_chip.specs.Chip.{ChipData}
-use Rattle.aeth_chip.specs.Nodes.{sender_of, sends_on}
-use Rattle.aeth_chip.specs.Paths.{IsAdmissible}
-use Rattle.aeth_chip.specs.declared.node.Link.{Link}
-use Rattle.aeth_chip.specs.declared.node.Node.TheVariants.{Router}
-use Rattle.aeth_app.specs.App.{AppData, wish_of}
-use Rattle.aeth_app.specs.Rates.{need_of}
-use Rattle.aeth_app.specs.declared.connection.Connection.{Connection}
-use Rattle.aeth_group.specs.Members.{groups_of}
-use Rattle.aeth_group.specs.declared.grant.Grant.{Grant}
+use Rattle.aeth_server.specs.{ChannelShape.IsShapeInRange, ChannelShape.shape_of, Shape.buffer_of}
+use Rattle.aeth_server.specs.{declared.shape.ChannelShape.ChannelShape}
+use Rattle.aeth_chip.specs.{Chip.ChipData, Nodes.sender_of, Nodes.sends_on, Paths.IsAdmissible}
+use Rattle.aeth_chip.specs.{declared.node.Link.Link, declared.node.Node.TheVariants.Router}
+use Rattle.aeth_app.specs.{App.AppData, App.wish_of, Rates.need_of}
+use Rattle.aeth_app.specs.{declared.connection.Connection.Connection}
+use Rattle.aeth_group.specs.{Members.groups_of, declared.grant.Grant.Grant}
 use Rattle.aeth_plan.specs.Plan.{PlanData}
 use Rattle.aeth_ni.specs.declared.row.ChannelRow.{ChannelRow}
-use Rattle.aeth_tables.specs.Granted.{channels_of, other_side}
-use Rattle.aeth_tables.specs.TableText.{IsRowOf}
+use Rattle.aeth_tables.specs.{Granted.channels_of, Granted.other_side, TableText.IsRowOf}
+use Rattle.aeth_tables.specs.{Tables.TablesData}
 pub use Rattle.aeth_tables.specs.TableText.{HasNumbers}
-use Rattle.aeth_tables.specs.Tables.{TablesData}
 
 -- No two rows have one interface with the same queue.
 abbrev pub HaveOwnQueues : List ChannelRow → Type 0

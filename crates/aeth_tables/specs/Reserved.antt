@@ -4,21 +4,14 @@
 --   IsSeated, IsServed, IsReserved      the seats and grants of a connection
 --   IsPlanned      these are the plan's
 -- Connections with a channel each way: after Æthereal (2005). Seats: this project's own.
-use Rattle.std.specs.Prelude.{◌≡◌, ◌<◌, ◌+◌, ◌-◌, ℕ, All, Some, Contains, length, slice_get}
-use Rattle.aeth_base.specs.declared.ids.CoreId.{CoreId}
-use Rattle.aeth_base.specs.declared.ids.NiId.{NiId}
-use Rattle.aeth_base.specs.declared.ids.Side.{Side}
-use Rattle.aeth_slots.specs.Choice.{IsSuitable}
-use Rattle.aeth_slots.specs.SlotSet.{Ascends}
-use Rattle.aeth_chip.specs.Chip.{ChipData}
-use Rattle.aeth_chip.specs.Paths.{IsAdmissible, path_delay}
-use Rattle.aeth_app.specs.App.{AppData, wish_of}
-use Rattle.aeth_app.specs.Limits.{seats_per_ni}
-use Rattle.aeth_app.specs.Rates.{need_of}
-use Rattle.aeth_app.specs.declared.connection.Connection.{Connection}
-use Rattle.aeth_app.specs.Connections.{receiver, sender}
-use Rattle.aeth_group.specs.declared.grant.Grant.{Grant}
-use Rattle.aeth_group.specs.declared.grant.SeatLine.{SeatLine}
+use Rattle.std.proofs.Common.{◌≡◌, ◌<◌, ◌+◌, ◌-◌, ℕ, All, Some, Contains, length, slice_get}
+use Rattle.aeth_base.specs.declared.ids.{CoreId.CoreId, NiId.NiId, Side.Side}
+use Rattle.aeth_slots.specs.{Choice.IsSuitable, SlotSet.Ascends}
+use Rattle.aeth_chip.specs.{Chip.ChipData, Paths.IsAdmissible, Paths.path_delay}
+use Rattle.aeth_app.specs.{App.AppData, App.wish_of, Limits.seats_per_ni, Rates.need_of}
+use Rattle.aeth_app.specs.{declared.connection.Connection.Connection, Connections.receiver}
+use Rattle.aeth_app.specs.{Connections.sender}
+use Rattle.aeth_group.specs.declared.grant.{Grant.Grant, SeatLine.SeatLine}
 use Rattle.aeth_plan.specs.Plan.{PlanData}
 use Rattle.aeth_tables.specs.Granted.{grant_on, receiving_seat, sending_seat, unit_in}
 use Rattle.aeth_tables.specs.declared.granted.GrantedConnection.{GrantedConnection}

@@ -4,13 +4,10 @@
 --   port_from, port_of, ports_along, route_along      ports and routes
 --   IsSent      whether a router sends on a link
 -- Source routing by output ports: after Æthereal (2005).
-use Rattle.std.specs.Prelude.{ℕ, IsSome, List, map, drop, take, count_by}
-use Rattle.std.specs.Prelude.{Option, Some, None}
-use Rattle.aeth_base.specs.declared.ids.LinkId.{LinkId}
-use Rattle.aeth_base.specs.declared.ids.RouterId.{RouterId}
+use Rattle.std.proofs.Common.{ℕ, IsSome, List, map, drop, take, count_by, Option, Some, None}
+use Rattle.aeth_base.specs.declared.ids.{LinkId.LinkId, RouterId.RouterId}
 use Rattle.aeth_chip.specs.Nodes.{begins_at, sender_of}
-use Rattle.aeth_chip.specs.declared.node.Link.{Link}
-use Rattle.aeth_chip.specs.declared.node.Node.TheVariants.{Router}
+use Rattle.aeth_chip.specs.declared.node.{Link.Link, Node.TheVariants.Router}
 use Rattle.aeth_header.specs.Route.{route_of}
 
 -- The port of a link on which this router sends: how many links before it the router sends on; 0 where

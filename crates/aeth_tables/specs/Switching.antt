@@ -7,20 +7,17 @@
 --   spans_of      those of all switches
 -- Slot tables that are written while the network runs: after Æthereal (2005). The rest: this
 -- project's own.
-use Rattle.std.specs.Prelude.{ℕ, ◌+◌, not, List, [], ◌∷◌, filter, flat_map, length, map, sum_by}
+use Rattle.std.proofs.Common.{ℕ, ◌+◌, not, List, [], ◌∷◌, filter, flat_map, length, map, sum_by}
 use Rattle.std.specs.List.{range_with_len}
 use Rattle.aeth_slots.specs.SlotSet.{greatest}
-use Rattle.aeth_chip.specs.Chip.{ChipData}
-use Rattle.aeth_chip.specs.Paths.{path_delay}
+use Rattle.aeth_chip.specs.{Chip.ChipData, Paths.path_delay}
 use Rattle.aeth_app.specs.App.{AppData}
 use Rattle.aeth_group.specs.Members.{GroupsData, is_kept}
 use Rattle.aeth_plan.specs.Plan.{PlanData}
-use Rattle.aeth_ni.specs.Program.{write_count}
-use Rattle.aeth_ni.specs.declared.row.ChannelRow.{ChannelRow}
+use Rattle.aeth_ni.specs.{Program.write_count, declared.row.ChannelRow.ChannelRow}
 use Rattle.aeth_trace.specs.Spans.{SpanData}
-use Rattle.aeth_tables.specs.Granted.{granted_in}
-use Rattle.aeth_tables.specs.Tables.{rows_on}
-use Rattle.aeth_tables.specs.declared.granted.GrantedConnection.{GrantedConnection}
+use Rattle.aeth_tables.specs.{Granted.granted_in, Tables.rows_on}
+use Rattle.aeth_tables.specs.{declared.granted.GrantedConnection.GrantedConnection}
 
 -- Those of some connections that a switch between two use cases doesn't keep. Of the connections of
 -- the one that is left they close, of those of the one that is entered they open.

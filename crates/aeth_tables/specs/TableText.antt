@@ -9,25 +9,21 @@
 --   HasTableOf, NamesConnection, IsRowOf, HasNumbers      what a row names
 --   IsPrintable      tables that can be printed
 -- This project's own.
-use Rattle.std.specs.Prelude.{◌≡◌, ◌<◌, ℕ, ◌==◌, List, [], ◌∷◌, ◌++◌, All, codes, filter, flat_map}
-use Rattle.std.specs.Prelude.{length, map, None, Option, slice_get, Some}
-use Rattle.std.specs.declared.alloc.Global.{Global}
-use Rattle.std.specs.declared.vec.Vec.{Vec}
+use Rattle.std.proofs.Common.{◌≡◌, ◌<◌, ℕ, ◌==◌, List, [], ◌∷◌, ◌++◌, All, codes, filter, flat_map}
+use Rattle.std.proofs.Common.{length, map, None, Option, slice_get, Some}
+use Rattle.std.specs.declared.{alloc.Global.Global, vec.Vec.Vec}
 use Rattle.std.specs.List.{range_with_len, zip}
 use Rattle.aeth_text.specs.Spelling.{text_of_lines}
 use Rattle.aeth_slots.specs.SlotSet.{has_slot}
-use Rattle.aeth_server.specs.ChannelShape.{IsShapeInRange, shape_of}
-use Rattle.aeth_server.specs.Shape.{channel_latency}
-use Rattle.aeth_server.specs.declared.shape.ChannelShape.{ChannelShape}
+use Rattle.aeth_server.specs.{ChannelShape.IsShapeInRange, ChannelShape.shape_of}
+use Rattle.aeth_server.specs.{Shape.channel_latency, declared.shape.ChannelShape.ChannelShape}
 use Rattle.aeth_chip.specs.Chip.{ChipData}
 use Rattle.aeth_app.specs.App.{AppData}
 use Rattle.aeth_plan.specs.Plan.{connection_names, name_at}
-use Rattle.aeth_ni.specs.Limits.{queues_of_interface}
-use Rattle.aeth_ni.specs.declared.row.ChannelRow.{ChannelRow}
+use Rattle.aeth_ni.specs.{Limits.queues_of_interface, declared.row.ChannelRow.ChannelRow}
 use Rattle.aeth_trace.specs.Switches.{use_names}
-use Rattle.aeth_tables.specs.Lines.{entry_line, head_line, queue_line}
-use Rattle.aeth_tables.specs.Tables.{TablesData}
-use Rattle.aeth_tables.specs.declared.promised.PromisedRow.{PromisedRow}
+use Rattle.aeth_tables.specs.{Lines.entry_line, Lines.head_line, Lines.queue_line}
+use Rattle.aeth_tables.specs.{Tables.TablesData, declared.promised.PromisedRow.PromisedRow}
 
 -- A row, with what the shape of its channel promises.
 abbrev pub promised : ChannelRow × ChannelShape → PromisedRow

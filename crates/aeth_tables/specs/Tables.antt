@@ -7,26 +7,20 @@
 --   TablesData, tables_with, tables_of      of all channels of a use case
 -- Slot tables in network interfaces: after Æthereal (2005). Queue numbers and buffers: this
 -- project's own.
-use Rattle.std.specs.Prelude.{ℕ, List, [], ◌∷◌, flat_map}
-use Rattle.aeth_base.specs.declared.ids.ConnId.{ConnId}
-use Rattle.aeth_base.specs.declared.ids.Side.{Side}
-use Rattle.aeth_base.specs.declared.ids.Side.TheVariants.{Fwd, Back}
-use Rattle.aeth_base.specs.declared.ids.UseId.{UseId}
-use Rattle.aeth_server.specs.ChannelShape.{shape_of}
-use Rattle.aeth_server.specs.Shape.{buffer_of}
-use Rattle.aeth_server.specs.declared.shape.ChannelShape.{ChannelShape}
-use Rattle.aeth_chip.specs.Chip.{ChipData}
-use Rattle.aeth_chip.specs.Paths.{path_delay}
-use Rattle.aeth_app.specs.App.{AppData, position_of, wish_of}
-use Rattle.aeth_app.specs.Rates.{need_of}
+use Rattle.std.proofs.Common.{ℕ, List, [], ◌∷◌, flat_map}
+use Rattle.aeth_base.specs.declared.ids.{ConnId.ConnId, Side.Side, Side.TheVariants.Fwd}
+use Rattle.aeth_base.specs.declared.ids.{Side.TheVariants.Back, UseId.UseId}
+use Rattle.aeth_server.specs.{ChannelShape.shape_of, Shape.buffer_of}
+use Rattle.aeth_server.specs.{declared.shape.ChannelShape.ChannelShape}
+use Rattle.aeth_chip.specs.{Chip.ChipData, Paths.path_delay}
+use Rattle.aeth_app.specs.{App.AppData, App.position_of, App.wish_of, Rates.need_of}
 use Rattle.aeth_seats.specs.Seats.{queue_of}
-use Rattle.aeth_group.specs.Members.{GroupsData}
-use Rattle.aeth_group.specs.declared.grant.SeatLine.{SeatLine}
+use Rattle.aeth_group.specs.{Members.GroupsData, declared.grant.SeatLine.SeatLine}
 use Rattle.aeth_plan.specs.Plan.{PlanData}
 use Rattle.aeth_ni.specs.declared.row.ChannelRow.{ChannelRow}
-use Rattle.aeth_tables.specs.Granted.{grant_on, granted_in, other_side, receiving_seat, sending_seat}
-use Rattle.aeth_tables.specs.Routes.{route_along}
-use Rattle.aeth_tables.specs.declared.granted.GrantedConnection.{GrantedConnection}
+use Rattle.aeth_tables.specs.{Granted.grant_on, Granted.granted_in, Granted.other_side}
+use Rattle.aeth_tables.specs.{Granted.receiving_seat, Granted.sending_seat, Routes.route_along}
+use Rattle.aeth_tables.specs.{declared.granted.GrantedConnection.GrantedConnection}
 
 -- The queue number of a connection at the seat of one of its cores.
 abbrev pub queue_at : AppData → ConnId → SeatLine → ℕ

@@ -1,10 +1,9 @@
 -- A text that is cut at its first separator.
-use Rattle.std.proofs.Common.{◌≡◌, ◌≢◌, ◌+◌, ◌-◌, ◌<◌, ◌≤◌, ℕ, Bool, List, [], ◌∷◌}
-use Rattle.std.proofs.Common.{length, take, drop, eqb, get_or, subst, sym, inl, inr, arith}
-use Rattle.std.proofs.lemmas.Bool.{cases_eq, eq-eqb, ne_eqb}
-use Rattle.std.proofs.lemmas.List.{get_or_default, length-drop, take_all}
-use Rattle.std.proofs.lemmas.List.Splits.{slice_split_first, slice_split_none}
-use Rattle.std.proofs.lemmas.List.Sums.{position_or_len_is}
+use Rattle.std.proofs.Common.{◌≡◌, ◌≢◌, ◌+◌, ◌-◌, ◌<◌, ◌≤◌, ℕ, Bool, List, [], ◌∷◌, length, take}
+use Rattle.std.proofs.Common.{drop, eqb, get_or, subst, sym, inl, inr, arith, eq-eqb, ne_eqb}
+use Rattle.std.proofs.Common.{length-drop, take_all}
+use Rattle.std.proofs.lemmas.{Bool.cases_eq, List.get_or_default, List.Splits.slice_split_first}
+use Rattle.std.proofs.lemmas.{List.Splits.slice_split_none, List.Sums.position_or_len_is}
 use Rattle.memchr.specs.Find.{Nowhere, Passes, is_byte}
 use Rattle.aeth_text.specs.Grammar.{parts}
 

@@ -1,23 +1,16 @@
 -- The fields of a line, each with its reader and its writer.
-use Rattle.std.proofs.Common.{◌≡◌, ◌<◌, ◌≤◌, ◌^◌, ◌∙◌, ℕ, Bool, true, false, cond, List, []}
-use Rattle.std.proofs.Common.{◌∷◌, length, map, Option, Some, None, refl, sym, ap, arith}
-use Rattle.std.specs.Prelude.{codes, decimal, nat_le, nat_lt}
+use Rattle.std.proofs.Common.{◌≡◌, ◌<◌, ◌≤◌, ◌^◌, ◌∙◌, ℕ, Bool, true, false, cond, List, [], ◌∷◌}
+use Rattle.std.proofs.Common.{length, map, Option, Some, None, refl, sym, ap, arith, codes, decimal}
+use Rattle.std.proofs.Common.{nat_le, nat_lt, le-leb, leb-true, ltb-true}
+use Rattle.std.proofs.lemmas.{Fmt.decimal_is_IsNumeral, Str.Parse.digit_from_value}
+use Rattle.std.proofs.lemmas.{Bool.Decides.nat_tests, Bool.and_parts, Bool.cond-true}
+use Rattle.std.proofs.lemmas.{List.length-map, Option.none-some, Option.same_Some}
+use Rattle.std.proofs.lemmas.{Slice.Eq.bytes_eq-Decides}
 use Rattle.std.specs.List.{AllByRecursion, join_with_byte, list_all}
-use Rattle.std.specs.Str.{bytes_eq}
-use Rattle.std.specs.Str.Parse.{AllDigits}
-use Rattle.std.proofs.lemmas.Fmt.{decimal_is_IsNumeral}
-use Rattle.std.proofs.lemmas.Str.Parse.{digit_from_value}
-use Rattle.std.proofs.lemmas.Bool.Decides.{nat_tests}
-use Rattle.std.proofs.lemmas.Bool.{and_parts, cond-true, le-leb, leb-true, ltb-true}
-use Rattle.std.proofs.lemmas.List.{length-map}
-use Rattle.std.proofs.lemmas.Option.{none-some, same_Some}
-use Rattle.std.proofs.lemmas.Slice.Eq.{bytes_eq-Decides}
-use Rattle.aeth_base.specs.Limits.{min_path_links}
-use Rattle.aeth_base.specs.Name.{is_name, is_name_byte, name_of}
-use Rattle.aeth_base.specs.Number.{number_of}
-use Rattle.aeth_base.specs.declared.ids.LinkId.{LinkId}
-use Rattle.aeth_base.specs.declared.ids.Side.{Side}
-use Rattle.aeth_base.specs.declared.ids.Side.TheVariants.{Fwd, Back}
+use Rattle.std.specs.Str.{bytes_eq, Parse.AllDigits}
+use Rattle.aeth_base.specs.{Limits.min_path_links, Name.is_name, Name.is_name_byte, Name.name_of}
+use Rattle.aeth_base.specs.{Number.number_of, declared.ids.LinkId.LinkId, declared.ids.Side.Side}
+use Rattle.aeth_base.specs.{declared.ids.Side.TheVariants.Fwd, declared.ids.Side.TheVariants.Back}
 use Rattle.aeth_base.proofs.NameLemmas.{name_only}
 use Rattle.aeth_base.proofs.Numbers.{number_of-decimal, number_of-some}
 use Rattle.aeth_text.specs.Fields.{are_ascending, ascending_in, is_path, link_in, links_in}
@@ -25,10 +18,8 @@ use Rattle.aeth_text.specs.Fields.{number_in, side_in}
 use Rattle.aeth_text.specs.Grammar.{headed, parts}
 use Rattle.aeth_text.specs.Limits.{comma, line_feed, max_number, space}
 use Rattle.aeth_text.specs.Spelling.{link_word, links_word, numbers_word, side_word}
-use Rattle.aeth_text.proofs.Readers.{ReadsBack, reads_all, reads_as}
-use Rattle.aeth_text.proofs.PartLaws.{Above, Above-less}
-use Rattle.aeth_text.proofs.Readers.{reads_headed, reads_kept}
-use Rattle.aeth_text.proofs.PartLaws.{reads_parts}
+use Rattle.aeth_text.proofs.Readers.{ReadsBack, reads_all, reads_as, reads_headed, reads_kept}
+use Rattle.aeth_text.proofs.PartLaws.{Above, Above-less, reads_parts}
 
 -- ---- Names
 

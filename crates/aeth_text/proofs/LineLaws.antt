@@ -1,18 +1,15 @@
 -- The lines of a text, and what the lines of one form at the front say.
 use Rattle.std.proofs.Common.{◌≡◌, ◌<◌, ◌∙◌, ℕ, List, [], ◌∷◌, ◌++◌, length, map, Option, Some}
-use Rattle.std.proofs.Common.{None}
-use Rattle.std.proofs.Common.{refl, sym, ap, append_assoc, arith, eqb}
-use Rattle.std.specs.Prelude.{flat_map}
-use Rattle.std.specs.List.{AllByRecursion, join_with_byte}
-use Rattle.std.proofs.lemmas.List.{length-append}
+use Rattle.std.proofs.Common.{None, refl, sym, ap, append_assoc, arith, eqb, flat_map}
+use Rattle.std.proofs.Common.{length-append}
 use Rattle.std.proofs.lemmas.List.Concat.{flat_map-cons}
 use Rattle.std.proofs.lemmas.List.Splits.{join_with_byte-slice_split, length-slice_split}
-use Rattle.aeth_text.specs.Grammar.{all_but_last, behind, last_part, leading, lines_of}
+use Rattle.std.specs.List.{AllByRecursion, join_with_byte}
+use Rattle.aeth_text.specs.Grammar.{all_but_last, behind, last_part, leading, lines_of, here_or}
+use Rattle.aeth_text.specs.Grammar.{parts, rest_of, with_first}
 use Rattle.aeth_text.specs.Limits.{line_feed}
-use Rattle.aeth_text.specs.Grammar.{here_or, parts, rest_of, with_first}
 use Rattle.aeth_text.specs.Spelling.{ended_line}
-use Rattle.aeth_text.proofs.Readers.{ReadsBack}
-use Rattle.aeth_text.proofs.PartLaws.{Above, parts_again}
+use Rattle.aeth_text.proofs.{Readers.ReadsBack, PartLaws.Above, PartLaws.parts_again}
 
 -- ---- Lines and their line feeds
 

@@ -1,17 +1,12 @@
 -- Numbers of a comma list that are read digit by digit.
 use Rattle.std.proofs.Common.{◌≡◌, ◌<◌, ◌≤◌, ◌+◌, ◌*◌, ◌^◌, ◌∙◌, ℕ, List, Some, None, length, take}
-use Rattle.std.proofs.Common.{get_or, sym, ap, arith}
-use Rattle.std.specs.Char.{digit_value}
-use Rattle.std.specs.Prelude.{nat_le}
-use Rattle.std.specs.Str.Parse.{AllDigits, digits_value}
-use Rattle.std.proofs.lemmas.Bool.{cond-true, le-leb}
-use Rattle.std.proofs.lemmas.Fmt.{decimal-digits_value}
-use Rattle.std.proofs.lemmas.Int.Digits.{digits_more, digits_value_more}
-use Rattle.std.proofs.lemmas.Str.Parse.{numerals_by_value, tells_digits}
-use Rattle.aeth_base.specs.Number.{IsLed}
-use Rattle.aeth_base.proofs.Numbers.{number_of-decimal}
-use Rattle.aeth_text.specs.Fields.{number_in}
-use Rattle.aeth_text.specs.Limits.{max_number}
+use Rattle.std.proofs.Common.{get_or, sym, ap, arith, nat_le, le-leb}
+use Rattle.std.proofs.lemmas.{Bool.cond-true, Fmt.decimal-digits_value, Int.Digits.digits_more}
+use Rattle.std.proofs.lemmas.{Int.Digits.digits_value_more, Str.Parse.numerals_by_value}
+use Rattle.std.proofs.lemmas.{Str.Parse.tells_digits}
+use Rattle.std.specs.{Char.digit_value, Str.Parse.AllDigits, Str.Parse.digits_value}
+use Rattle.aeth_base.{specs.Number.IsLed, proofs.Numbers.number_of-decimal}
+use Rattle.aeth_text.specs.{Fields.number_in, Limits.max_number}
 
 -- The first bytes of a text are digits, and this is their number.
 pub record IsReadTo (text : List ℕ) (i value : ℕ) : Type 0 where

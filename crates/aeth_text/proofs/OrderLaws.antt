@@ -1,8 +1,7 @@
 -- Lists that rise: no item of them is misplaced.
-use Rattle.std.proofs.Common.{◌≡◌, ◌∙◌, ℕ, Bool, true, false, cond, List, [], ◌∷◌, Some}
-use Rattle.std.proofs.Common.{None, refl, sym}
-use Rattle.std.proofs.lemmas.Bool.{cond-true}
-use Rattle.std.proofs.lemmas.Option.{none-some}
+use Rattle.std.proofs.Common.{◌≡◌, ◌∙◌, ℕ, Bool, true, false, cond, List, [], ◌∷◌, Some, None, refl}
+use Rattle.std.proofs.Common.{sym}
+use Rattle.std.proofs.lemmas.{Bool.cond-true, Option.none-some}
 use Rattle.aeth_text.specs.Order.{Rises, RisesAfter, line_after, misplaced, misplaced_after}
 
 module _ {X : Type 0} (before : X → X → Bool) where

@@ -1,13 +1,10 @@
 -- The parts of a text between separators: what is joined is cut again.
 use Rattle.std.proofs.Common.{◌≡◌, ◌<◌, ◌≤◌, ◌∙◌, ℕ, false, List, [], ◌∷◌, ◌++◌, length, Option}
-use Rattle.std.proofs.Common.{refl, ap, eqb, arith}
+use Rattle.std.proofs.Common.{refl, ap, eqb, arith, ne_eqb, eq-eqb}
+use Rattle.std.proofs.lemmas.List.{Elements.All-from_recursion, Splits.join_with_byte-slice_split}
+use Rattle.std.proofs.lemmas.List.{Splits.slice_split_at, Splits.slice_split_none}
 use Rattle.std.specs.List.{AllByRecursion, join_with_byte}
-use Rattle.std.proofs.lemmas.Bool.{ne_eqb, eq-eqb}
-use Rattle.std.proofs.lemmas.List.Elements.{All-from_recursion}
-use Rattle.std.proofs.lemmas.List.Splits.{join_with_byte-slice_split, slice_split_at}
-use Rattle.std.proofs.lemmas.List.Splits.{slice_split_none}
-use Rattle.aeth_text.specs.Grammar.{parts}
-use Rattle.aeth_text.proofs.Readers.{ReadsBack}
+use Rattle.aeth_text.{specs.Grammar.parts, proofs.Readers.ReadsBack}
 
 -- All bytes of a text are above a byte.
 abbrev pub Above : ℕ → List ℕ → Type 0

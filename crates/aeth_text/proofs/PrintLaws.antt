@@ -1,11 +1,10 @@
 -- Lists that are printed word by word, with commas between.
-use Rattle.std.proofs.Common.{◌≡◌, ◌≤◌, ◌∙◌, ℕ, Bool, true, false, List, [], ◌∷◌, ◌++◌, arith, length}
-use Rattle.std.proofs.Common.{take, refl, sym, ap, append_assoc}
-use Rattle.std.specs.Prelude.{flat_map}
+use Rattle.std.proofs.Common.{◌≡◌, ◌≤◌, ◌∙◌, ℕ, Bool, true, false, List, [], ◌∷◌, ◌++◌, arith}
+use Rattle.std.proofs.Common.{length, take, refl, sym, ap, append_assoc, flat_map, append-nil}
+use Rattle.std.proofs.Common.{length-take}
+use Rattle.std.proofs.lemmas.List.{take-append-le}
 use Rattle.std.specs.List.{join_with_byte}
-use Rattle.std.proofs.lemmas.List.{append-nil, length-take, take-append-le}
-use Rattle.aeth_text.specs.Limits.{comma}
-use Rattle.aeth_text.specs.Spelling.{item}
+use Rattle.aeth_text.specs.{Limits.comma, Spelling.item}
 
 -- ---- Commas
 

@@ -1,13 +1,10 @@
 -- Readers and their writers: what a reader reads is what its writer writes, both ways. The laws go
 -- from fields to lists and lines.
-use Rattle.std.proofs.Common.{◌≡◌, ◌∙◌, ℕ, Bool, true, false, cond, List, []}
-use Rattle.std.proofs.Common.{◌∷◌, map, Option, Some, None, refl, sym, ap, subst}
-use Rattle.std.specs.Prelude.{option_map}
-use Rattle.std.specs.List.{AllByRecursion}
-use Rattle.std.specs.Str.{bytes_eq}
-use Rattle.std.proofs.lemmas.Bool.{cond-true}
-use Rattle.std.proofs.lemmas.Option.{same_Some, none-some}
-use Rattle.std.proofs.lemmas.Slice.Eq.{bytes_eq-Decides}
+use Rattle.std.proofs.Common.{◌≡◌, ◌∙◌, ℕ, Bool, true, false, cond, List, [], ◌∷◌, map, Option}
+use Rattle.std.proofs.Common.{Some, None, refl, sym, ap, subst, option_map}
+use Rattle.std.proofs.lemmas.{Bool.cond-true, Option.same_Some, Option.none-some}
+use Rattle.std.proofs.lemmas.{Slice.Eq.bytes_eq-Decides}
+use Rattle.std.specs.{List.AllByRecursion, Str.bytes_eq}
 use Rattle.aeth_base.proofs.Lists.{option_map-some}
 use Rattle.aeth_text.specs.Grammar.{all_of, both, field, headed, kept, last_field}
 

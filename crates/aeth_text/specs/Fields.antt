@@ -4,17 +4,14 @@
 --   is_path, links_in      the links of a path
 --   are_ascending, ascending_in      numbers, each greater than the one before
 -- This project's own.
-use Rattle.std.specs.Prelude.{ℕ, ◌&&◌, Bool, List, codes, length, nat_le, nat_lt, Option, Some}
-use Rattle.std.specs.Prelude.{None, option_map, is_none, if◌then◌else◌}
+use Rattle.std.proofs.Common.{ℕ, ◌&&◌, Bool, List, codes, length, nat_le, nat_lt, Option, Some}
+use Rattle.std.proofs.Common.{None, option_map, is_none, if◌then◌else◌}
 use Rattle.std.specs.Str.{bytes_eq}
-use Rattle.aeth_base.specs.Limits.{max_path_links, min_path_links}
-use Rattle.aeth_base.specs.Number.{number_of}
-use Rattle.aeth_base.specs.declared.ids.LinkId.{LinkId}
-use Rattle.aeth_base.specs.declared.ids.Side.{Side}
-use Rattle.aeth_base.specs.declared.ids.Side.TheVariants.{Fwd, Back}
-use Rattle.aeth_text.specs.Grammar.{all_of, kept, parts}
-use Rattle.aeth_text.specs.Limits.{comma, max_number}
-use Rattle.aeth_text.specs.Order.{misplaced}
+use Rattle.aeth_base.specs.{Limits.max_path_links, Limits.min_path_links, Number.number_of}
+use Rattle.aeth_base.specs.{declared.ids.LinkId.LinkId, declared.ids.Side.Side}
+use Rattle.aeth_base.specs.{declared.ids.Side.TheVariants.Fwd, declared.ids.Side.TheVariants.Back}
+use Rattle.aeth_text.specs.{Grammar.all_of, Grammar.kept, Grammar.parts, Limits.comma}
+use Rattle.aeth_text.specs.{Limits.max_number, Order.misplaced}
 
 -- A number: a canonical decimal of 32 bits.
 unfoldable pub number_in : List ℕ → Option ℕ

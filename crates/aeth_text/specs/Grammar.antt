@@ -7,11 +7,9 @@
 --   leading, behind      the lines of one form at the front, and those after them
 --   words_left      what is left of a line that is read word by word
 -- This project's own.
-use Rattle.std.specs.Prelude.{ℕ, ◌==◌, Bool, List, [], ◌∷◌, Option, Some, None, option_map}
-use Rattle.std.specs.Prelude.{if◌then◌else◌}
-use Rattle.std.specs.Borrow.{Bor}
-use Rattle.std.specs.List.{slice_split}
-use Rattle.std.specs.Str.{bytes_eq}
+use Rattle.std.proofs.Common.{ℕ, ◌==◌, Bool, List, [], ◌∷◌, Option, Some, None, option_map}
+use Rattle.std.proofs.Common.{if◌then◌else◌}
+use Rattle.std.specs.{Borrow.Bor, List.slice_split, Str.bytes_eq}
 use Rattle.aeth_text.specs.Limits.{line_feed}
 
 -- The parts of a text between its separators: one more than there are separators.

@@ -1,6 +1,6 @@
 -- The numbers of the rules on texts.
 -- This project's own.
-use Rattle.std.specs.Prelude.{ℕ}
+use Rattle.std.proofs.Common.{ℕ}
 
 -- A number of a text is at most this, the greatest of 32 bits.
 abbrev pub max_number : ℕ

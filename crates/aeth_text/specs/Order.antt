@@ -4,8 +4,8 @@
 --   Rises      each item comes after the one before it
 --   misplaced      the line of the first item that doesn't
 -- This project's own.
-use Rattle.std.specs.Prelude.{ℕ, ◌+◌, min, Bool, List, [], ◌∷◌, Option, Some, None, IsTrue}
-use Rattle.std.specs.Prelude.{if◌then◌else◌}
+use Rattle.std.proofs.Common.{ℕ, ◌+◌, min, Bool, List, [], ◌∷◌, Option, Some, None, IsTrue}
+use Rattle.std.proofs.Common.{if◌then◌else◌}
 use Rattle.aeth_text.specs.Limits.{last_line}
 
 -- The number of the line so many lines after a line.

@@ -4,12 +4,11 @@
 --   item      a word of a list that is printed word by word
 --   ended_line, text_of_lines      a line with its line feed, and a text
 -- This project's own.
-use Rattle.std.specs.Prelude.{ℕ, Bool, true, false, List, [], ◌∷◌, ◌++◌, codes, decimal}
-use Rattle.std.specs.Prelude.{flat_map, map}
+use Rattle.std.proofs.Common.{ℕ, Bool, true, false, List, [], ◌∷◌, ◌++◌, codes, decimal, flat_map}
+use Rattle.std.proofs.Common.{map}
 use Rattle.std.specs.List.{join_with_byte}
 use Rattle.aeth_base.specs.declared.ids.LinkId.{LinkId}
-use Rattle.aeth_base.specs.declared.ids.Side.{Side}
-use Rattle.aeth_base.specs.declared.ids.Side.TheVariants.{Fwd, Back}
+use Rattle.aeth_base.specs.declared.ids.Side.{Side, TheVariants.Fwd, TheVariants.Back}
 use Rattle.aeth_text.specs.Limits.{comma, line_feed}
 
 -- The word of a side.

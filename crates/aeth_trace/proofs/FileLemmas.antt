@@ -1,25 +1,23 @@
 -- What holds of the rows of a file that keeps the rules.
 use Rattle.std.proofs.Common.{◌≡◌, ◌<◌, ◌≤◌, ℕ, List, [], ◌∷◌, Ok, length, map, refl, subst, sym}
 use Rattle.std.proofs.Common.{arith}
-use Rattle.std.proofs.lemmas.Bool.Decides.{nat_tests}
-use Rattle.std.proofs.lemmas.List.Elements.{All-weaker}
+use Rattle.std.proofs.lemmas.{Bool.Decides.nat_tests, List.Elements.All-weaker}
 use Rattle.aeth_app.specs.App.{AppData}
 use Rattle.aeth_base.specs.Limits.{max_cycles}
 use Rattle.aeth_document.proofs.ChainLemmas.{bind_ok}
 use Rattle.aeth_trace.specs.Limits.{max_pull, max_rows, max_switch_rows}
 use Rattle.aeth_trace.specs.Receivers.{AreReceiversOf, heads_receivers, pull_in, receivers_of}
-use Rattle.aeth_records.specs.Records.{records_of}
 use Rattle.aeth_trace.specs.Rules.{are_few, are_in_order, are_known, table_of}
 use Rattle.aeth_trace.specs.Spans.{SpanData}
 use Rattle.aeth_trace.specs.Switches.{AreSwitchesOf, are_apart, heads_switches, is_first_at_zero}
 use Rattle.aeth_trace.specs.Switches.{switch_in, switches_of, use_names}
 use Rattle.aeth_trace.specs.Words.{AreWordsOf, connection_names, heads_words, word_in, words_of}
-use Rattle.aeth_trace.specs.declared.receivers.PullRow.{PullRow}
-use Rattle.aeth_trace.specs.declared.switches.SwitchRow.{SwitchRow}
-use Rattle.aeth_trace.specs.declared.words.WordRow.{WordRow}
-use Rattle.aeth_trace.proofs.KnownLemmas.{are_known-All}
-use Rattle.aeth_trace.proofs.OrderLemmas.{in_order-rises}
-use Rattle.aeth_trace.proofs.ToldLemmas.{pull_in-within, switch_in-within, table-All, word_in-within}
+use Rattle.aeth_trace.specs.declared.{receivers.PullRow.PullRow, switches.SwitchRow.SwitchRow}
+use Rattle.aeth_trace.specs.declared.{words.WordRow.WordRow}
+use Rattle.aeth_trace.proofs.{KnownLemmas.are_known-All, OrderLemmas.in_order-rises}
+use Rattle.aeth_trace.proofs.{ToldLemmas.pull_in-within, ToldLemmas.switch_in-within}
+use Rattle.aeth_trace.proofs.{ToldLemmas.table-All, ToldLemmas.word_in-within}
+use Rattle.aeth_records.specs.Records.{records_of}
 
 -- Where the rule on their number is kept, rows are few.
 pub few : (most rows : ℕ) (kept : Unit {0}) → are_few most rows ≡ Ok kept → rows ≤ most

@@ -1,7 +1,6 @@
 -- Connections that were found by their names.
 use Rattle.std.proofs.Common.{◌≡◌, ℕ, List, Some, sym}
-use Rattle.aeth_base.specs.Name.{name_of}
-use Rattle.aeth_base.proofs.NameLemmas.{name_only}
+use Rattle.aeth_base.{specs.Name.name_of, proofs.NameLemmas.name_only}
 
 -- A text that is a name is this name.
 pub name_of_text : (text name : List ℕ) → name_of text ≡ Some name → text ≡ name

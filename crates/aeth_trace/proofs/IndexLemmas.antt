@@ -1,23 +1,17 @@
 -- Numbers of rows, and the rows with these numbers.
-use Rattle.std.proofs.Common.{◌≡◌, ◌∙◌, ◌<◌, ◌+◌, ◌++◌, ◌==◌, ℕ, Bool, List, []}
-use Rattle.std.proofs.Common.{◌∷◌, length, take, map, filter, slice_get, Option, Some, refl, sym, ap}
-use Rattle.std.proofs.Common.{inl, inr, if◌then◌else◌, arith, get_or, ◌*◌, ◌&&◌}
-use Rattle.std.specs.Prelude.{option_map}
-use Rattle.std.specs.declared.alloc.Global.{Global}
-use Rattle.std.specs.declared.vec.Vec.{Vec}
-use Rattle.std.proofs.lemmas.Bool.{cases_Bool}
-use Rattle.std.proofs.lemmas.Bool.Decides.{nat_tests}
-use Rattle.std.proofs.lemmas.List.{length-map, map-append, take_more}
-use Rattle.std.proofs.lemmas.List.Elements.{filter-append}
+use Rattle.std.proofs.Common.{◌≡◌, ◌∙◌, ◌<◌, ◌+◌, ◌++◌, ◌==◌, ℕ, Bool, List, [], ◌∷◌, length, take}
+use Rattle.std.proofs.Common.{map, filter, slice_get, Option, Some, refl, sym, ap, inl, inr}
+use Rattle.std.proofs.Common.{if◌then◌else◌, arith, get_or, ◌*◌, ◌&&◌, option_map}
+use Rattle.std.proofs.lemmas.Bool.{cases_Bool, Decides.nat_tests}
+use Rattle.std.proofs.lemmas.List.{length-map, map-append, take_more, Elements.filter-append}
 use Rattle.std.proofs.lemmas.Option.{same_Some, slice_get-map, slice_get-get_or, slice_get_within}
 use Rattle.std.proofs.lemmas.Option.{get_or_from_slice_get}
+use Rattle.std.specs.declared.{alloc.Global.Global, vec.Vec.Vec}
 use Rattle.aeth_base.specs.declared.ids.Channel.{Channel}
-use Rattle.aeth_base.specs.declared.ids.Side.{Side}
-use Rattle.aeth_base.specs.declared.ids.Side.TheVariants.{Back, Fwd}
+use Rattle.aeth_base.specs.declared.ids.Side.{Side, TheVariants.Back, TheVariants.Fwd}
 use Rattle.aeth_base.specs.Sides.{same_side}
 use Rattle.aeth_base.proofs.Lists.{item-at}
-use Rattle.aeth_trace.specs.Channels.{channel_number, is_channel, list_at, rows_on}
-use Rattle.aeth_trace.specs.Channels.{side_number}
+use Rattle.aeth_trace.specs.Channels.{channel_number, is_channel, list_at, rows_on, side_number}
 
 -- There are as many numbers as rows.
 pub numbers_length : {R : Type 0} (rows kept : List R) (numbers : List ℕ)

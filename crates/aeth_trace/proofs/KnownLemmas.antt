@@ -1,8 +1,6 @@
 -- Rows that name things that are known.
-use Rattle.std.proofs.Common.{◌≡◌, ◌<◌, ◌+◌, ℕ, List, [], ◌∷◌, map, arith}
-use Rattle.std.specs.Prelude.{All, Ok}
-use Rattle.std.proofs.lemmas.Bool.Decides.{nat_tests}
-use Rattle.std.proofs.lemmas.List.Elements.{All-cons, All-nil}
+use Rattle.std.proofs.Common.{◌≡◌, ◌<◌, ◌+◌, ℕ, List, [], ◌∷◌, map, arith, All, Ok}
+use Rattle.std.proofs.lemmas.{Bool.Decides.nat_tests, List.Elements.All-cons, List.Elements.All-nil}
 use Rattle.aeth_trace.specs.Rules.{are_known}
 
 -- Where the rule on names is kept, each row names one of so many things.

@@ -1,19 +1,15 @@
 -- Rows whose cycles don't fall, and of these the ones up to a cycle: the first ones.
-use Rattle.std.proofs.Common.{◌≡◌, ◌∙◌, ◌<◌, ◌≤◌, ◌+◌, ℕ, zero, suc, Bool, List, [], ◌∷◌}
-use Rattle.std.proofs.Common.{length, take, filter, map, slice_get, Some, refl, sym, ap, arith}
-use Rattle.std.proofs.Common.{inl, inr, nat_le}
-use Rattle.std.specs.Prelude.{All, IfSome}
-use Rattle.std.specs.List.Sorted.{IsNonDecreasingBy}
-use Rattle.std.proofs.lemmas.Bool.{cases_Bool, cases_lt, le-leb}
-use Rattle.std.proofs.lemmas.Bool.Decides.{nat_tests}
+use Rattle.std.proofs.Common.{◌≡◌, ◌∙◌, ◌<◌, ◌≤◌, ◌+◌, ℕ, zero, suc, Bool, List, [], ◌∷◌, length}
+use Rattle.std.proofs.Common.{take, filter, map, slice_get, Some, refl, sym, ap, arith, inl, inr}
+use Rattle.std.proofs.Common.{nat_le, All, IfSome, le-leb, Ok}
+use Rattle.std.proofs.lemmas.Bool.{cases_Bool, cases_lt, Decides.nat_tests}
 use Rattle.std.proofs.lemmas.List.Elements.{All-cons, All-nil, All-filter, All-head, All-tail}
 use Rattle.std.proofs.lemmas.List.Elements.{All-weaker}
 use Rattle.std.proofs.lemmas.List.Sums.{length-filter, count_by-le-length}
 use Rattle.std.proofs.lemmas.Option.{same_Some}
-use Rattle.std.specs.Prelude.{Ok}
+use Rattle.std.specs.List.Sorted.{IsNonDecreasingBy}
 use Rattle.aeth_base.proofs.Members.{All-slice_get}
-use Rattle.aeth_trace.specs.Channels.{rows_until}
-use Rattle.aeth_trace.specs.Rules.{are_in_order}
+use Rattle.aeth_trace.specs.{Channels.rows_until, Rules.are_in_order}
 
 -- The first isn't above the later ones.
 pub first_least : {X : Type 0} (n : X → ℕ) (x : X) (xs : List X) → IsNonDecreasingBy n (x ∷ xs)

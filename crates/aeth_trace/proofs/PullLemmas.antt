@@ -1,16 +1,13 @@
 -- What the last of a channel's rows says, and how long.
 use Rattle.std.proofs.Common.{◌≡◌, ◌∙◌, ◌≤◌, ◌<◌, ◌+◌, ◌++◌, ℕ, List, [], ◌∷◌, Option, Some, None}
-use Rattle.std.proofs.Common.{length, map, take, slice_get, refl, sym, ap, arith}
-use Rattle.std.specs.Prelude.{unwrap_or}
-use Rattle.std.specs.List.{last_or}
-use Rattle.std.specs.List.Sorted.{IsNonDecreasingBy}
+use Rattle.std.proofs.Common.{length, map, take, slice_get, refl, sym, ap, arith, unwrap_or}
 use Rattle.std.proofs.lemmas.List.{map-append, take_more}
 use Rattle.std.proofs.lemmas.Option.{get_or_from_slice_get, slice_get_past, slice_get_within}
+use Rattle.std.specs.List.{last_or, Sorted.IsNonDecreasingBy}
 use Rattle.aeth_base.specs.declared.ids.Channel.{Channel}
-use Rattle.aeth_trace.specs.Channels.{is_channel}
-use Rattle.aeth_trace.specs.Limits.{usual_pull}
-use Rattle.aeth_trace.specs.Receivers.{IsSteady, pull_at, pull_of, pulls_on, pulls_until}
-use Rattle.aeth_trace.specs.declared.receivers.PullRow.{PullRow}
+use Rattle.aeth_trace.specs.{Channels.is_channel, Limits.usual_pull, Receivers.IsSteady}
+use Rattle.aeth_trace.specs.{Receivers.pull_at, Receivers.pull_of, Receivers.pulls_on}
+use Rattle.aeth_trace.specs.{Receivers.pulls_until, declared.receivers.PullRow.PullRow}
 use Rattle.aeth_trace.proofs.OrderLemmas.{rise-filter, until_next, until_steady, until_take}
 
 -- What was put last is last.

@@ -1,27 +1,18 @@
 -- What holds of each row that records tell.
-use Rattle.std.proofs.Common.{◌≡◌, ◌≤◌, ◌+◌, ℕ, Bool, List, [], ◌∷◌, Option, Some}
-use Rattle.std.proofs.Common.{None, Result, Ok, Err, refl, ap, subst, inl, inr, arith}
-use Rattle.std.specs.Prelude.{All, option_map}
-use Rattle.std.proofs.lemmas.Bool.{cases_Bool}
-use Rattle.std.proofs.lemmas.Bool.Decides.{nat_tests}
-use Rattle.std.proofs.lemmas.List.Elements.{All-cons, All-nil}
-use Rattle.std.proofs.lemmas.Option.{same_Some}
-use Rattle.aeth_base.specs.Faults.{BrokenRule}
-use Rattle.aeth_base.specs.Limits.{max_cycles}
-use Rattle.aeth_base.specs.Number.{number_of}
-use Rattle.aeth_base.specs.declared.ids.Channel.{Channel}
-use Rattle.aeth_base.specs.declared.ids.Side.{Side}
+use Rattle.std.proofs.Common.{◌≡◌, ◌≤◌, ◌+◌, ℕ, Bool, List, [], ◌∷◌, Option, Some, None, Result, Ok}
+use Rattle.std.proofs.Common.{Err, refl, ap, subst, inl, inr, arith, All, option_map}
+use Rattle.std.proofs.lemmas.{Bool.cases_Bool, Bool.Decides.nat_tests, List.Elements.All-cons}
+use Rattle.std.proofs.lemmas.{List.Elements.All-nil, Option.same_Some}
+use Rattle.aeth_base.specs.{Faults.BrokenRule, Limits.max_cycles, Number.number_of}
+use Rattle.aeth_base.specs.{declared.ids.Channel.Channel, declared.ids.Side.Side}
 use Rattle.aeth_text.specs.Fields.{side_in}
-use Rattle.aeth_trace.specs.Fields.{at_most, channel_in, channel_with, four_of, named, number_to}
-use Rattle.aeth_trace.specs.Fields.{three_of}
-use Rattle.aeth_trace.specs.Limits.{max_pull, max_value}
-use Rattle.aeth_trace.specs.Receivers.{pull_in, pull_on}
-use Rattle.aeth_trace.specs.Rules.{row_before, rows_from, table_of}
-use Rattle.aeth_trace.specs.Switches.{switch_in, switch_of, switch_with}
-use Rattle.aeth_trace.specs.Words.{word_in, word_on}
-use Rattle.aeth_trace.specs.declared.receivers.PullRow.{PullRow}
-use Rattle.aeth_trace.specs.declared.switches.SwitchRow.{SwitchRow}
-use Rattle.aeth_trace.specs.declared.words.WordRow.{WordRow}
+use Rattle.aeth_trace.specs.{Fields.at_most, Fields.channel_in, Fields.channel_with, Fields.four_of}
+use Rattle.aeth_trace.specs.{Fields.named, Fields.number_to, Fields.three_of, Limits.max_pull}
+use Rattle.aeth_trace.specs.{Limits.max_value, Receivers.pull_in, Receivers.pull_on}
+use Rattle.aeth_trace.specs.{Rules.row_before, Rules.rows_from, Rules.table_of, Switches.switch_in}
+use Rattle.aeth_trace.specs.{Switches.switch_of, Switches.switch_with, Words.word_in, Words.word_on}
+use Rattle.aeth_trace.specs.{declared.receivers.PullRow.PullRow}
+use Rattle.aeth_trace.specs.{declared.switches.SwitchRow.SwitchRow, declared.words.WordRow.WordRow}
 
 -- The rows of a result; none where it has none.
 abbrev rows_in : {A : Type 0} → Result (List A) BrokenRule → List A

@@ -5,14 +5,11 @@
 --   side_number, channel_number      channels in their order
 --   list_at, IsByChannel      an index of rows by their channels
 -- This project's own.
-use Rattle.std.specs.Prelude.{◌≡◌, ℕ, ◌+◌, ◌*◌, ◌&&◌, ◌==◌, nat_le, Bool, List, []}
-use Rattle.std.specs.Prelude.{Option, Some, None, filter, map, slice_get}
-use Rattle.std.specs.declared.alloc.Global.{Global}
-use Rattle.std.specs.declared.vec.Vec.{Vec}
-use Rattle.aeth_base.specs.Sides.{same_side}
-use Rattle.aeth_base.specs.declared.ids.Channel.{Channel}
-use Rattle.aeth_base.specs.declared.ids.Side.{Side}
-use Rattle.aeth_base.specs.declared.ids.Side.TheVariants.{Back, Fwd}
+use Rattle.std.proofs.Common.{◌≡◌, ℕ, ◌+◌, ◌*◌, ◌&&◌, ◌==◌, nat_le, Bool, List, [], Option, Some}
+use Rattle.std.proofs.Common.{None, filter, map, slice_get}
+use Rattle.std.specs.declared.{alloc.Global.Global, vec.Vec.Vec}
+use Rattle.aeth_base.specs.{Sides.same_side, declared.ids.Channel.Channel, declared.ids.Side.Side}
+use Rattle.aeth_base.specs.{declared.ids.Side.TheVariants.Back, declared.ids.Side.TheVariants.Fwd}
 
 -- Whether two channels are the same.
 abbrev pub is_channel : Channel → Channel → Bool

@@ -1,9 +1,8 @@
 -- The rules that trace files break, as a refusal shows them. Places are rows; the header is row 0.
 -- This project's own.
-use Rattle.std.specs.Prelude.{ℕ, ◌==◌, codes, Option, Some, None, if◌then◌else◌}
+use Rattle.std.proofs.Common.{ℕ, ◌==◌, codes, Option, Some, None, if◌then◌else◌}
 use Rattle.aeth_base.specs.Faults.{BrokenRule}
-use Rattle.aeth_base.specs.declared.shown.Shown.{Shown}
-use Rattle.aeth_base.specs.declared.shown.Shown.TheVariants.{Nothing, Number}
+use Rattle.aeth_base.specs.declared.shown.Shown.{Shown, TheVariants.Nothing, TheVariants.Number}
 use Rattle.aeth_trace.specs.declared.fault.TraceFault.{TraceFault}
 use Rattle.aeth_trace.specs.declared.fault.TraceFault.TheVariants.{BadRow, FirstNotZero, Memory}
 use Rattle.aeth_trace.specs.declared.fault.TraceFault.TheVariants.{OutOfOrder, Overlap, TooMany}

@@ -4,14 +4,12 @@
 --   three_of, four_of      the fields of a record that has just so many
 --   heads_channels, channel_in      the columns that words and receivers have
 -- This project's own.
-use Rattle.std.specs.Prelude.{ℕ, ◌&&◌, Bool, false, codes, List, length, nat_le, Option}
-use Rattle.std.specs.Prelude.{Some, None, is_none, unwrap_or, if◌then◌else◌}
+use Rattle.std.proofs.Common.{ℕ, ◌&&◌, Bool, false, codes, List, length, nat_le, Option, Some, None}
+use Rattle.std.proofs.Common.{is_none, unwrap_or, if◌then◌else◌}
 use Rattle.std.specs.Str.{bytes_eq}
 use Rattle.csv.specs.Records.{field_at}
-use Rattle.aeth_base.specs.Limits.{max_cycles}
-use Rattle.aeth_base.specs.Number.{number_of}
-use Rattle.aeth_base.specs.declared.ids.Channel.{Channel}
-use Rattle.aeth_base.specs.declared.ids.Side.{Side}
+use Rattle.aeth_base.specs.{Limits.max_cycles, Number.number_of, declared.ids.Channel.Channel}
+use Rattle.aeth_base.specs.{declared.ids.Side.Side}
 use Rattle.aeth_document.specs.Walks.{place_of}
 use Rattle.aeth_text.specs.Fields.{side_in}
 

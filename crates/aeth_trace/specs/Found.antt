@@ -1,8 +1,7 @@
 -- Connections that were found by their names.
 -- This project's own.
-use Rattle.std.specs.Prelude.{◌≡◌, ℕ, All, IfSome, List, Option}
-use Rattle.aeth_trace.specs.Fields.{named}
-use Rattle.aeth_trace.specs.declared.found.Found.{Found}
+use Rattle.std.proofs.Common.{◌≡◌, ℕ, All, IfSome, List, Option}
+use Rattle.aeth_trace.specs.{Fields.named, declared.found.Found.Found}
 
 -- A number is that of a name among these.
 abbrev pub IsFound : List (List ℕ) → Found → Type 0

@@ -1,6 +1,6 @@
 -- The numbers of the rules on traces. A cycle is at most the most cycles of a run.
 -- This project's own.
-use Rattle.std.specs.Prelude.{ℕ}
+use Rattle.std.proofs.Common.{ℕ}
 
 -- The most rows of a file of words or of receivers.
 abbrev pub max_rows : ℕ

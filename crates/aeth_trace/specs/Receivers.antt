@@ -6,22 +6,18 @@
 --   pull_of, pull_at      what the last of some rows says; what a receiver takes in a cycle
 --   change_after, IsSteady      the next row of a channel, and what is taken before
 -- This project's own.
-use Rattle.std.specs.Prelude.{◌≡◌, ◌≤◌, ◌<◌, ℕ, All, Bool, codes, List, length, map, Option}
-use Rattle.std.specs.Prelude.{None, option_map, Result, Ok, slice_get, unwrap_or}
-use Rattle.std.specs.List.{last_or}
-use Rattle.std.specs.List.Sorted.{IsNonDecreasingBy}
+use Rattle.std.proofs.Common.{◌≡◌, ◌≤◌, ◌<◌, ℕ, All, Bool, codes, List, length, map, Option, None}
+use Rattle.std.proofs.Common.{option_map, Result, Ok, slice_get, unwrap_or}
+use Rattle.std.specs.List.{last_or, Sorted.IsNonDecreasingBy}
 use Rattle.aeth_app.specs.App.{AppData}
-use Rattle.aeth_base.specs.Faults.{BrokenRule}
-use Rattle.aeth_base.specs.declared.ids.Channel.{Channel}
-use Rattle.aeth_base.specs.Limits.{max_cycles}
+use Rattle.aeth_base.specs.{Faults.BrokenRule, declared.ids.Channel.Channel, Limits.max_cycles}
 use Rattle.aeth_document.specs.Chain.{◌>>=◌}
-use Rattle.aeth_trace.specs.Channels.{rows_on, rows_until}
-use Rattle.aeth_trace.specs.Fields.{channel_in, four_of, heads_channels}
-use Rattle.aeth_trace.specs.Limits.{max_pull, max_rows, usual_pull}
+use Rattle.aeth_trace.specs.{Channels.rows_on, Channels.rows_until, Fields.channel_in}
+use Rattle.aeth_trace.specs.{Fields.four_of, Fields.heads_channels, Limits.max_pull}
+use Rattle.aeth_trace.specs.{Limits.max_rows, Limits.usual_pull, Rules.are_few, Rules.are_in_order}
+use Rattle.aeth_trace.specs.{Rules.are_known, Rules.table_of, Words.connection_names}
+use Rattle.aeth_trace.specs.{declared.receivers.PullRow.PullRow}
 use Rattle.aeth_records.specs.Records.{records_of}
-use Rattle.aeth_trace.specs.Rules.{are_few, are_in_order, are_known, table_of}
-use Rattle.aeth_trace.specs.Words.{connection_names}
-use Rattle.aeth_trace.specs.declared.receivers.PullRow.{PullRow}
 
 -- Whether the fields are the header of a file of receivers.
 abbrev pub heads_receivers : List (List ℕ) → Bool

@@ -3,8 +3,8 @@
 --   table_of      rule 1: the rows under the header
 --   are_known, are_in_order, are_few      rules 2, 3 and 5
 -- This project's own.
-use Rattle.std.specs.Prelude.{ℕ, ◌+◌, Bool, List, [], ◌∷◌, nat_le, nat_lt, Option, Some, None}
-use Rattle.std.specs.Prelude.{Result, Ok, Err, if◌then◌else◌}
+use Rattle.std.proofs.Common.{ℕ, ◌+◌, Bool, List, [], ◌∷◌, nat_le, nat_lt, Option, Some, None}
+use Rattle.std.proofs.Common.{Result, Ok, Err, if◌then◌else◌}
 use Rattle.aeth_base.specs.Faults.{BrokenRule}
 use Rattle.aeth_document.specs.Chain.{◌>>=◌}
 use Rattle.aeth_trace.specs.Fault.{bad_row, out_of_order, too_many, unknown}

@@ -1,7 +1,7 @@
 -- How long switches between use cases take.
 -- After Æthereal (2005), whose slot tables are written while the network runs; the rest: this
 -- project's own.
-use Rattle.std.specs.Prelude.{ℕ, ◌+◌, ◌*◌, List}
+use Rattle.std.proofs.Common.{ℕ, ◌+◌, ◌*◌, List}
 use Rattle.std.specs.List.{slice_index_or}
 
 -- Spans for so many use cases: for each pair of them, in the order of the one that is left and then

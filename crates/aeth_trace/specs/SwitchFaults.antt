@@ -5,8 +5,9 @@
 --   first_of, IsOfRow      a fault of some rows
 --   IsPlain      a fault that has no such field
 -- This project's own.
-use Rattle.std.specs.Prelude.{◌≡◌, ⊤, ℕ, ◌-◌, List, [], ◌∷◌, Some, Result, Ok, Err, option_map}
-use Rattle.std.specs.Prelude.{slice_get}
+use Rattle.std.proofs.Common.{◌≡◌, ℕ, ◌-◌, List, [], ◌∷◌, Some, Result, Ok, Err, option_map}
+use Rattle.std.proofs.Common.{slice_get}
+use Rattle.std.specs.Prelude.{⊤}
 use Rattle.aeth_app.specs.App.{AppData}
 use Rattle.aeth_base.specs.Faults.{BrokenRule}
 use Rattle.aeth_records.specs.Records.{records_of}

@@ -4,22 +4,18 @@
 --   go_after, are_apart, is_first_at_zero      rules 4 and 6
 --   switches_of, AreSwitchesOf      the switches of a file, and what holds of them
 -- This project's own.
-use Rattle.std.specs.Prelude.{◌≡◌, ◌≤◌, ◌<◌, All}
-use Rattle.std.specs.Prelude.{ℕ, ◌+◌, ◌&&◌, ◌==◌, Bool, false, codes, List, [], ◌∷◌, length, map}
-use Rattle.std.specs.Prelude.{nat_lt, Option, Some, None, Result, Ok, Err, if◌then◌else◌}
-use Rattle.std.specs.List.Sorted.{IsNonDecreasingBy}
-use Rattle.std.specs.Str.{bytes_eq}
+use Rattle.std.proofs.Common.{◌≡◌, ◌≤◌, ◌<◌, All, ℕ, ◌+◌, ◌&&◌, ◌==◌, Bool, false, codes, List, []}
+use Rattle.std.proofs.Common.{◌∷◌, length, map, nat_lt, Option, Some, None, Result, Ok, Err}
+use Rattle.std.proofs.Common.{if◌then◌else◌}
+use Rattle.std.specs.{List.Sorted.IsNonDecreasingBy, Str.bytes_eq}
 use Rattle.aeth_app.specs.App.{AppData}
-use Rattle.aeth_base.specs.Faults.{BrokenRule}
-use Rattle.aeth_base.specs.Limits.{max_cycles}
+use Rattle.aeth_base.specs.{Faults.BrokenRule, Limits.max_cycles}
 use Rattle.aeth_document.specs.Chain.{◌>>=◌}
-use Rattle.aeth_trace.specs.Fault.{first_not_zero, overlap}
-use Rattle.aeth_trace.specs.Fields.{named, number_to, three_of}
-use Rattle.aeth_trace.specs.Limits.{max_switch_rows}
+use Rattle.aeth_trace.specs.{Fault.first_not_zero, Fault.overlap, Fields.named, Fields.number_to}
+use Rattle.aeth_trace.specs.{Fields.three_of, Limits.max_switch_rows, Rules.are_few}
+use Rattle.aeth_trace.specs.{Rules.are_in_order, Rules.are_known, Rules.table_of, Spans.SpanData}
+use Rattle.aeth_trace.specs.{Spans.span_of, declared.switches.SwitchRow.SwitchRow}
 use Rattle.aeth_records.specs.Records.{records_of}
-use Rattle.aeth_trace.specs.Rules.{are_few, are_in_order, are_known, table_of}
-use Rattle.aeth_trace.specs.Spans.{SpanData, span_of}
-use Rattle.aeth_trace.specs.declared.switches.SwitchRow.{SwitchRow}
 
 -- Whether three fields are the header of a file of switches.
 abbrev pub heads_three : Option (List ℕ × List ℕ × List ℕ) → Bool

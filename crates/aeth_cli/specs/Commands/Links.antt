@@ -1,16 +1,14 @@
 -- `links CHIP APP PLAN WORDS RECEIVERS SWITCHES CYCLES`: what the links carry in a run of an accepted
 -- plan, as a log of links.
 -- This project's own.
-use Rattle.std.specs.Prelude.{ℕ, ◌≤◌, List, [], ◌∷◌, Option, Some, None, codes, if◌then◌else◌}
+use Rattle.std.proofs.Common.{ℕ, ◌≤◌, List, [], ◌∷◌, Option, Some, None, codes, if◌then◌else◌}
 use Rattle.std.specs.Str.{bytes_eq}
 use Rattle.aeth_accepted.specs.Inputs.{Inputs, run_of}
-use Rattle.aeth_answers.specs.Job.{Job, done}
-use Rattle.aeth_answers.specs.Task.{Task, ends}
-use Rattle.aeth_answers.specs.Words.{◌>>=◌, number_within}
+use Rattle.aeth_answers.specs.{Job.Job, Job.done, Task.Task, Task.ends, Words.◌>>=◌}
+use Rattle.aeth_answers.specs.{Words.number_within}
 use Rattle.aeth_links.specs.Carried.{carried_rows, log_text}
 use Rattle.aeth_run_commands.specs.TracedDesigns.{files_named, traced_design, traced_inputs}
-use Rattle.aeth_cli.specs.Limits.{max_logged_cycles}
-use Rattle.aeth_cli.specs.declared.commands.links.LoggedRun.{LoggedRun}
+use Rattle.aeth_cli.specs.{Limits.max_logged_cycles, declared.commands.links.LoggedRun.LoggedRun}
 
 -- CHIP a chip file, APP an application file, PLAN a plan text; WORDS, RECEIVERS and SWITCHES trace
 -- files; CYCLES the number of cycles.

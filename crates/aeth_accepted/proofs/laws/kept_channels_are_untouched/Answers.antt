@@ -1,6 +1,5 @@
 use Rattle.aeth_group.specs.Members.{groups_of}
-use Rattle.aeth_accepted.specs.Inputs.{design_of, row_at}
-use Rattle.aeth_accepted.proofs.ApartRows.{all_apart}
+use Rattle.aeth_accepted.{specs.Inputs.design_of, specs.Inputs.row_at, proofs.ApartRows.all_apart}
 use Rattle.aeth_accepted.proofs.laws.kept_channels_are_untouched.Goals as goal
 
 -- After each number of writes.

@@ -1,5 +1,4 @@
-use Rattle.aeth_accepted.specs.Inputs.{run_of}
-use Rattle.aeth_accepted.specs.Wishes.{latency_at}
+use Rattle.aeth_accepted.specs.{Inputs.run_of, Wishes.latency_at}
 use Rattle.aeth_accepted.proofs.Wished.{need_at, waits_alone}
 use Rattle.aeth_accepted.proofs.laws.words_land_in_time.Goals as goal
 

@@ -1,9 +1,6 @@
-use Rattle.std.proofs.Common.{◌≡◌, ◌∙◌, ◌+◌, List, ℕ, ap, arith, rules, subst}
-use Rattle.std.specs.Prelude.{IfOk}
+use Rattle.std.proofs.Common.{◌≡◌, ◌∙◌, ◌+◌, List, ℕ, ap, arith, rules, subst, IfOk}
 use Rattle.aeth_app.specs.declared.connection.Price.TheVariants.{Hops, Pressure}
-use Rattle.aeth_alloc.specs.Allocation.{allocation}
-use Rattle.aeth_alloc.specs.Prices.{prices_of}
-use Rattle.aeth_alloc.specs.Refusals.{RefusesExactly}
+use Rattle.aeth_alloc.specs.{Allocation.allocation, Prices.prices_of, Refusals.RefusesExactly}
 use Rattle.aeth_alloc.proofs.PriceLemmas.{price-table}
 use Rattle.aeth_alloc.proofs.allocation.allocate.Goals as goal
 

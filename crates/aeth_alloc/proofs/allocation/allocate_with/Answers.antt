@@ -1,19 +1,15 @@
-use Rattle.std.proofs.Common.{◌≡◌, []}
-use Rattle.std.specs.Prelude.{IfOk, Result, Ok, Err}
+use Rattle.std.proofs.Common.{◌≡◌, [], IfOk, Result, Ok, Err}
 use Rattle.aeth_group.specs.Members.{GroupsData, groups_of}
-use Rattle.aeth_plan.specs.Making.{IsPlanWith}
-use Rattle.aeth_plan.specs.Plan.{IsPlanOf}
-use Rattle.aeth_plan.specs.Accepted.{IsAccepted}
-use Rattle.aeth_alloc.specs.Allocation.{OutcomeData, allocation}
-use Rattle.aeth_alloc.specs.Channels.{Design}
-use Rattle.aeth_alloc.specs.Refusals.{LacksOnlyRefused, RefusesExactly}
+use Rattle.aeth_plan.specs.{Making.IsPlanWith, Plan.IsPlanOf, Accepted.IsAccepted}
+use Rattle.aeth_alloc.specs.{Allocation.OutcomeData, Allocation.allocation, Channels.Design}
+use Rattle.aeth_alloc.specs.{Refusals.LacksOnlyRefused, Refusals.RefusesExactly}
 use Rattle.aeth_alloc.proofs.OutcomeLemmas.{allocation-made, allocation-refuses, of-made}
 use Rattle.aeth_alloc.proofs.OutcomeLemmas.{state-apart}
 use Rattle.aeth_alloc.proofs.PlanLemmas.{allocation-accepted, allocation-lacks}
 use Rattle.aeth_alloc.proofs.PlanOfLemmas.{allocation-plan_of}
+use Rattle.aeth_alloc.proofs.allocation.allocate_with.Goals.{After-outcome}
 use Rattle.aeth_alloc.proofs.allocation.allocate_with.Given as given
 use Rattle.aeth_alloc.proofs.allocation.allocate_with.Goals as goal
-use Rattle.aeth_alloc.proofs.allocation.allocate_with.Goals.{After-outcome}
 
 -- The grants of the last state stand apart.
 pub outcome-requires : goal.outcome-requires

@@ -1,8 +1,6 @@
 use Rattle.std.proofs.Common.{◌∙◌, ◌+◌, ap, subst, sym}
-use Rattle.aeth_alloc.specs.Allocation.{first_state}
-use Rattle.aeth_alloc.specs.Channels.{Design}
-use Rattle.aeth_alloc.specs.Holds.{IsDesign, IsStateOf}
-use Rattle.aeth_alloc.specs.Turns.{after_turn}
+use Rattle.aeth_alloc.specs.{Allocation.first_state, Channels.Design, Holds.IsDesign}
+use Rattle.aeth_alloc.specs.{Holds.IsStateOf, Turns.after_turn}
 use Rattle.aeth_alloc.proofs.TurnLemmas.{after_turns-next, after_turns-none, state-turns}
 use Rattle.aeth_alloc.proofs.allocation.last_state.Goals as goal
 

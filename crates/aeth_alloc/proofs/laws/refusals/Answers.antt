@@ -1,5 +1,4 @@
-use Rattle.aeth_alloc.proofs.LackLemmas.{refuses-exactly}
-use Rattle.aeth_alloc.proofs.RefusalLemmas.{refused-last}
+use Rattle.aeth_alloc.proofs.{LackLemmas.refuses-exactly, RefusalLemmas.refused-last}
 use Rattle.aeth_alloc.proofs.laws.refusals.Goals as goal
 
 -- Each refusal of the last state is right.

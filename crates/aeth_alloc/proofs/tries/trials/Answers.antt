@@ -1,5 +1,4 @@
-use Rattle.std.proofs.Common.{subst, sym}
-use Rattle.std.specs.Prelude.{All}
+use Rattle.std.proofs.Common.{subst, sym, All}
 use Rattle.aeth_paths.specs.Trials.{IsTrialOf}
 use Rattle.aeth_alloc.proofs.TryLemmas.{if-ok}
 use Rattle.aeth_alloc.proofs.tries.trials.Goals as goal

@@ -1,20 +1,17 @@
-use Rattle.std.proofs.Common.{◌≡◌, ◌∙◌, ◌+◌, ◌++◌, List, length, map, ap, arith, subst, sym}
-use Rattle.std.specs.Prelude.{All, option_to_list}
-use Rattle.std.proofs.lemmas.List.{append-nil}
+use Rattle.std.proofs.Common.{◌≡◌, ◌∙◌, ◌+◌, ◌++◌, List, length, map, ap, arith, subst, sym, All}
+use Rattle.std.proofs.Common.{option_to_list, append-nil}
 use Rattle.aeth_group.specs.Members.{GroupsData}
 use Rattle.aeth_paths.specs.Trials.{IsTrialOf}
-use Rattle.aeth_alloc.specs.Allocation.{first_state}
-use Rattle.aeth_alloc.specs.Channels.{Design}
-use Rattle.aeth_alloc.specs.Holds.{IsDesign, IsStateOf}
-use Rattle.aeth_alloc.specs.Trials.{trial_after, trial_in, trials_of}
-use Rattle.aeth_alloc.specs.Tries.{AreWithin, TryData, trial_over}
-use Rattle.aeth_alloc.specs.Turns.{State, after_turn}
+use Rattle.aeth_alloc.specs.{Allocation.first_state, Channels.Design, Holds.IsDesign}
+use Rattle.aeth_alloc.specs.{Holds.IsStateOf, Trials.trial_after, Trials.trial_in, Trials.trials_of}
+use Rattle.aeth_alloc.specs.{Tries.AreWithin, Tries.TryData, Tries.trial_over, Turns.State}
+use Rattle.aeth_alloc.specs.{Turns.after_turn}
 use Rattle.aeth_alloc.proofs.KeptTryLemmas.{Grow, all-trials, grow-turn, tries-next, within-next}
 use Rattle.aeth_alloc.proofs.TrialLemmas.{trials-fit}
 use Rattle.aeth_alloc.proofs.TurnLemmas.{after_turns-next, after_turns-none, state-turns}
+use Rattle.aeth_alloc.proofs.tries.tries_of.Goals.{Joined-branch-3, in-Some+in_ok-push, in_default}
 use Rattle.aeth_alloc.proofs.tries.tries_of.Given as given
 use Rattle.aeth_alloc.proofs.tries.tries_of.Goals as goal
-use Rattle.aeth_alloc.proofs.tries.tries_of.Goals.{Joined-branch-3, in-Some+in_ok-push, in_default}
 
 -- No turn was taken.
 pub loop-turn-init : goal.loop-turn-init

@@ -1,8 +1,7 @@
 use Rattle.std.proofs.Common.{◌≡◌, length, map}
 use Rattle.std.specs.List.{filter_map, range_with_len}
-use Rattle.aeth_alloc.specs.Allocation.{after_turns}
-use Rattle.aeth_alloc.specs.Trials.{trial_after}
-use Rattle.aeth_alloc.specs.Tries.{AreWithin, trial_over}
+use Rattle.aeth_alloc.specs.{Allocation.after_turns, Trials.trial_after, Tries.AreWithin}
+use Rattle.aeth_alloc.specs.{Tries.trial_over}
 use Rattle.aeth_alloc.proofs.tries.tries_of.Given as goal
 
 -- So many turns were taken, and their tries are kept.

@@ -1,12 +1,10 @@
 use Rattle.std.proofs.Common.{◌≡◌, ◌∙◌, None, Some, cond, ap, sym}
 use Rattle.aeth_base.specs.declared.ids.Side.TheVariants.{Back, Fwd}
-use Rattle.aeth_alloc.specs.Channels.{Reserved, tried}
-use Rattle.aeth_alloc.specs.Turns.{after_back, after_fwd}
-use Rattle.aeth_alloc.proofs.BackLemmas.{IsTaken, taken}
-use Rattle.aeth_alloc.proofs.TurnLemmas.{reserved-tried}
+use Rattle.aeth_alloc.specs.{Channels.Reserved, Channels.tried, Turns.after_back, Turns.after_fwd}
+use Rattle.aeth_alloc.proofs.{BackLemmas.IsTaken, BackLemmas.taken, TurnLemmas.reserved-tried}
+use Rattle.aeth_alloc.proofs.{turns.try_unit.Goals.After-try_channel-2}
 use Rattle.aeth_alloc.proofs.turns.try_unit.Given as given
 use Rattle.aeth_alloc.proofs.turns.try_unit.Goals as goal
-use Rattle.aeth_alloc.proofs.turns.try_unit.Goals.{After-try_channel-2}
 
 -- What the `fwd` channel left is of the design.
 pub try_channel-requires-2-clause-reserved : goal.try_channel-requires-2-clause-reserved

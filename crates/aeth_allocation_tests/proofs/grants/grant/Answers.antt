@@ -1,7 +1,5 @@
-use Rattle.std.proofs.Common.{subst}
-use Rattle.std.specs.Prelude.{Contains}
-use Rattle.aeth_slots.specs.SlotSet.{Slots}
-use Rattle.aeth_slots.proofs.SlotSetLemmas.{Contains-common}
+use Rattle.std.proofs.Common.{subst, Contains}
+use Rattle.aeth_slots.{specs.SlotSet.Slots, proofs.SlotSetLemmas.Contains-common}
 use Rattle.aeth_allocation_tests.proofs.grants.grant.Goals as goal
 
 -- Slots that are free are granted.

@@ -1,6 +1,6 @@
 use Rattle.std.proofs.Common.{◌∙◌, ℕ, ◌++◌, ap, sym, append_assoc}
-use Rattle.std.specs.Fmt.{decimal}
 use Rattle.std.proofs.lemmas.Iterator.Consumers.{YieldsList-end, YieldsList-from_first}
+use Rattle.std.specs.Fmt.{decimal}
 use Rattle.aeth_answers.proofs.Listing.{list_text-cons}
 use Rattle.aeth_answers.proofs.text.push_slots.Goals as goal
 

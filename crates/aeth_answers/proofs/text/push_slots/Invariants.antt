@@ -1,6 +1,5 @@
 use Rattle.std.proofs.Common.{◌≡◌, ◌++◌, ◌∷◌}
-use Rattle.std.specs.Fmt.{decimal}
-use Rattle.std.specs.List.{flat_map}
+use Rattle.std.specs.{Fmt.decimal, List.flat_map}
 use Rattle.aeth_text.specs.Limits.{comma}
 use Rattle.aeth_answers.proofs.text.push_slots.Given as goal
 

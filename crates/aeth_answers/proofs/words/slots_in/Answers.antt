@@ -1,8 +1,8 @@
 use Rattle.std.proofs.Common.{◌∙◌, ◌==◌, Some, None, ap, sym, lit<, arith}
-use Rattle.std.specs.List.{slice_split}
 use Rattle.std.proofs.lemmas.List.{length_push}
 use Rattle.std.proofs.lemmas.Iterator.Consumers.{YieldsList-end, YieldsList-turn}
 use Rattle.std.proofs.lemmas.Iterator.Splits.{YieldsList-from_str_split}
+use Rattle.std.specs.List.{slice_split}
 use Rattle.aeth_slots.proofs.Ascending.{Ascends-push, Ascends-wider}
 use Rattle.aeth_text.specs.Limits.{comma}
 use Rattle.aeth_answers.proofs.Reading.{number_within-bounds, read-all, read-more, read-none}

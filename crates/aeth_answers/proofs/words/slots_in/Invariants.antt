@@ -1,5 +1,4 @@
-use Rattle.std.proofs.Common.{◌≡◌, ◌==◌, length}
-use Rattle.std.specs.List.{slice_split}
+use Rattle.std.{proofs.Common.◌≡◌, proofs.Common.◌==◌, proofs.Common.length, specs.List.slice_split}
 use Rattle.aeth_slots.specs.SlotSet.{Ascends}
 use Rattle.aeth_text.specs.Limits.{comma}
 use Rattle.aeth_answers.proofs.Reading.{IsReadSoFar}

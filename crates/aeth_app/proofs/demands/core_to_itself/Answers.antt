@@ -1,6 +1,5 @@
 use Rattle.std.proofs.Common.{◌∙◌, map, refl}
-use Rattle.aeth_app.specs.Demands.{own_end}
-use Rattle.aeth_app.proofs.WalkParts.{found-list}
+use Rattle.aeth_app.{specs.Demands.own_end, proofs.WalkParts.found-list}
 use Rattle.aeth_app.proofs.demands.core_to_itself.Goals as goal
 
 -- The walk over all connections finds the first.

@@ -1,6 +1,5 @@
 use Rattle.std.proofs.Common.{◌≡◌, drop, map}
-use Rattle.aeth_document.specs.Walks.{walked}
-use Rattle.aeth_document.specs.declared.walk.Walk.TheVariants.{At}
+use Rattle.aeth_document.specs.{Walks.walked, declared.walk.Walk.TheVariants.At}
 use Rattle.aeth_app.specs.Demands.{own_end}
 use Rattle.aeth_app.proofs.demands.core_to_itself.Given as goal
 

@@ -1,12 +1,8 @@
-use Rattle.std.proofs.Common.{◌∙◌, ◌-◌, ◌+◌, ◌∷◌, [], ℕ, map, Option}
-use Rattle.std.specs.Prelude.{count_by}
+use Rattle.std.proofs.Common.{◌∙◌, ◌-◌, ◌+◌, ◌∷◌, [], ℕ, map, Option, count_by}
 use Rattle.std.specs.List.{range_with_len}
-use Rattle.aeth_base.proofs.Ranges.{range_more}
-use Rattle.aeth_base.specs.declared.shown.Shown.{Shown}
+use Rattle.aeth_base.{proofs.Ranges.range_more, specs.declared.shown.Shown.Shown}
 use Rattle.aeth_document.proofs.WalkLemmas.{walked-append}
-use Rattle.aeth_app.specs.App.{is_end}
-use Rattle.aeth_app.specs.Demands.{above}
-use Rattle.aeth_app.specs.Limits.{max_core_connections}
+use Rattle.aeth_app.specs.{App.is_end, Demands.above, Limits.max_core_connections}
 use Rattle.aeth_app.proofs.WalkParts.{found-range}
 use Rattle.aeth_app.proofs.demands.core_too_busy.Goals as goal
 

@@ -1,7 +1,5 @@
-use Rattle.std.proofs.Common.{◌∙◌, ◌∷◌, [], refl}
-use Rattle.std.specs.Prelude.{flat_map}
-use Rattle.aeth_app.specs.Demands.{too_fast}
-use Rattle.aeth_app.proofs.WalkParts.{found-list}
+use Rattle.std.proofs.Common.{◌∙◌, ◌∷◌, [], refl, flat_map}
+use Rattle.aeth_app.{specs.Demands.too_fast, proofs.WalkParts.found-list}
 use Rattle.aeth_app.proofs.demands.rate_too_high.Goals as goal
 
 -- The walk over all wishes finds the first.

@@ -1,7 +1,5 @@
-use Rattle.std.proofs.Common.{◌≡◌, [], ◌∷◌, drop}
-use Rattle.std.specs.Prelude.{flat_map}
-use Rattle.aeth_document.specs.Walks.{walked}
-use Rattle.aeth_document.specs.declared.walk.Walk.TheVariants.{At}
+use Rattle.std.proofs.Common.{◌≡◌, [], ◌∷◌, drop, flat_map}
+use Rattle.aeth_document.specs.{Walks.walked, declared.walk.Walk.TheVariants.At}
 use Rattle.aeth_app.specs.Demands.{too_fast}
 use Rattle.aeth_app.proofs.demands.rate_too_high.Given as goal
 

@@ -1,8 +1,5 @@
-use Rattle.std.proofs.Common.{◌∙◌}
-use Rattle.std.specs.Prelude.{count_by}
-use Rattle.aeth_app.specs.App.{is_fixed_to}
-use Rattle.aeth_app.specs.Demands.{above}
-use Rattle.aeth_app.specs.Limits.{seats_per_ni}
+use Rattle.std.proofs.Common.{◌∙◌, count_by}
+use Rattle.aeth_app.specs.{App.is_fixed_to, Demands.above, Limits.seats_per_ni}
 use Rattle.aeth_app.proofs.WalkParts.{found-range}
 use Rattle.aeth_app.proofs.demands.seats_overfull.Goals as goal
 

@@ -1,11 +1,7 @@
-use Rattle.std.proofs.Common.{◌≡◌, ◌-◌, map}
-use Rattle.std.specs.Prelude.{count_by}
+use Rattle.std.proofs.Common.{◌≡◌, ◌-◌, map, count_by}
 use Rattle.std.specs.List.{range_with_len}
-use Rattle.aeth_document.specs.Walks.{walked}
-use Rattle.aeth_document.specs.declared.walk.Walk.TheVariants.{At}
-use Rattle.aeth_app.specs.App.{is_fixed_to}
-use Rattle.aeth_app.specs.Demands.{above}
-use Rattle.aeth_app.specs.Limits.{seats_per_ni}
+use Rattle.aeth_document.specs.{Walks.walked, declared.walk.Walk.TheVariants.At}
+use Rattle.aeth_app.specs.{App.is_fixed_to, Demands.above, Limits.seats_per_ni}
 use Rattle.aeth_app.proofs.demands.seats_overfull.Given as goal
 
 abbrev pub invariant-loop-ni : goal.invariant-loop-ni

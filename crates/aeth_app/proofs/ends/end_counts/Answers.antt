@@ -2,8 +2,7 @@ use Rattle.std.proofs.Common.{◌≡◌, ◌+◌, ℕ, List, Some, length, slice
 use Rattle.std.proofs.Common.{arith}
 use Rattle.std.proofs.lemmas.Option.{slice_get_read}
 use Rattle.aeth_base.proofs.Lists.{written_back}
-use Rattle.aeth_app.specs.Ends.{AreEndCounts}
-use Rattle.aeth_app.proofs.EndLemmas.{counts-more}
+use Rattle.aeth_app.{specs.Ends.AreEndCounts, proofs.EndLemmas.counts-more}
 use Rattle.aeth_app.proofs.ends.end_counts.Goals as goal
 
 -- One more connection.

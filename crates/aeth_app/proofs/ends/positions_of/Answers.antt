@@ -3,9 +3,8 @@ use Rattle.std.proofs.Common.{arith}
 use Rattle.std.proofs.lemmas.Option.{slice_get_read}
 use Rattle.aeth_base.proofs.Lists.{written_back}
 use Rattle.aeth_chip.proofs.Pushes.{table-push}
-use Rattle.aeth_app.specs.App.{IsConnection}
-use Rattle.aeth_app.specs.Ends.{AreEndCounts, IsPlaced}
-use Rattle.aeth_app.specs.declared.connection.Connection.{Connection}
+use Rattle.aeth_app.specs.{App.IsConnection, Ends.AreEndCounts, Ends.IsPlaced}
+use Rattle.aeth_app.specs.{declared.connection.Connection.Connection}
 use Rattle.aeth_app.proofs.EndLemmas.{counts-more, placed}
 use Rattle.aeth_app.proofs.ends.positions_of.Goals as goal
 

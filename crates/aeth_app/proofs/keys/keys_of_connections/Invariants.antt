@@ -1,7 +1,5 @@
-use Rattle.std.proofs.Common.{◌≡◌}
-use Rattle.std.specs.Prelude.{flat_map}
-use Rattle.aeth_document.specs.Arrays.{tables_in}
-use Rattle.aeth_document.specs.Walks.{walked}
+use Rattle.std.proofs.Common.{◌≡◌, flat_map}
+use Rattle.aeth_document.specs.{Arrays.tables_in, Walks.walked}
 use Rattle.aeth_app.specs.Keys.{wrong_connection_keys}
 use Rattle.aeth_app.proofs.keys.keys_of_connections.Given as goal
 

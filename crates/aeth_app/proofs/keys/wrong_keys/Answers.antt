@@ -1,5 +1,4 @@
-use Rattle.std.proofs.Common.{◌∷◌, [], map}
-use Rattle.std.specs.Prelude.{flat_map}
+use Rattle.std.proofs.Common.{◌∷◌, [], map, flat_map}
 use Rattle.aeth_document.specs.Keys.{wrong_key}
 use Rattle.toml.specs.View.{table_view}
 use Rattle.aeth_app.specs.Keys.{core_fields, key_checks, root_fields, use_fields}

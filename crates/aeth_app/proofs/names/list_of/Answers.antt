@@ -1,11 +1,8 @@
-use Rattle.std.proofs.Common.{◌∷◌, [], append_assoc}
-use Rattle.std.specs.Prelude.{codes}
+use Rattle.std.proofs.Common.{◌∷◌, [], append_assoc, codes}
 use Rattle.std.proofs.lemmas.List.Elements.{All-tail}
 use Rattle.toml.specs.View.{table_view}
-use Rattle.aeth_document.specs.Arrays.{tables_in}
-use Rattle.aeth_document.specs.Values.{text_at}
-use Rattle.aeth_app.specs.Ranges.{IsNamed}
-use Rattle.aeth_app.specs.Tables.{names_in}
+use Rattle.aeth_document.specs.{Arrays.tables_in, Values.text_at}
+use Rattle.aeth_app.specs.{Ranges.IsNamed, Tables.names_in}
 use Rattle.aeth_app.proofs.names.list_of.Goals as goal
 
 -- One name more, at the end.

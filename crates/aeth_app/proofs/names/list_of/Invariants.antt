@@ -1,7 +1,6 @@
 use Rattle.std.proofs.Common.{◌≡◌, ◌++◌, All}
 use Rattle.aeth_document.specs.Arrays.{tables_in}
-use Rattle.aeth_app.specs.Ranges.{IsNamed}
-use Rattle.aeth_app.specs.Tables.{names_in}
+use Rattle.aeth_app.specs.{Ranges.IsNamed, Tables.names_in}
 use Rattle.aeth_app.proofs.names.list_of.Given as goal
 
 -- The names so far, and those that are left.

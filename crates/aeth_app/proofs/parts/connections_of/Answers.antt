@@ -2,8 +2,7 @@ use Rattle.std.proofs.Common.{◌∷◌, [], append_assoc, map}
 use Rattle.std.proofs.lemmas.List.Elements.{All-tail}
 use Rattle.toml.specs.View.{table_view}
 use Rattle.aeth_document.specs.Arrays.{tables_in}
-use Rattle.aeth_app.specs.Parts.{connection_of}
-use Rattle.aeth_app.specs.Ranges.{IsConnectionInRange, IsNamed}
+use Rattle.aeth_app.specs.{Parts.connection_of, Ranges.IsConnectionInRange, Ranges.IsNamed}
 use Rattle.aeth_app.proofs.parts.connections_of.Goals as goal
 
 -- One more of them.

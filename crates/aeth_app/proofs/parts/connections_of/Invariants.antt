@@ -1,7 +1,6 @@
 use Rattle.std.proofs.Common.{◌≡◌, ◌++◌, All, map}
 use Rattle.aeth_document.specs.Arrays.{tables_in}
-use Rattle.aeth_app.specs.Parts.{connection_of}
-use Rattle.aeth_app.specs.Ranges.{IsConnectionInRange, IsNamed}
+use Rattle.aeth_app.specs.{Parts.connection_of, Ranges.IsConnectionInRange, Ranges.IsNamed}
 use Rattle.aeth_app.proofs.parts.connections_of.Given as goal
 
 abbrev pub invariant-loop-table : goal.invariant-loop-table

@@ -1,7 +1,6 @@
 use Rattle.std.proofs.Common.{◌≡◌, ◌++◌, All, map}
 use Rattle.aeth_document.specs.Arrays.{tables_in}
-use Rattle.aeth_app.specs.Parts.{use_of}
-use Rattle.aeth_app.specs.Ranges.{IsNamed}
+use Rattle.aeth_app.specs.{Parts.use_of, Ranges.IsNamed}
 use Rattle.aeth_app.proofs.parts.uses_of.Given as goal
 
 abbrev pub invariant-loop-table : goal.invariant-loop-table

@@ -1,6 +1,5 @@
 use Rattle.std.proofs.Common.{◌≡◌, map}
-use Rattle.aeth_document.specs.Arrays.{tables_in}
-use Rattle.aeth_document.specs.Walks.{no_name, walked}
+use Rattle.aeth_document.specs.{Arrays.tables_in, Walks.no_name, Walks.walked}
 use Rattle.aeth_app.specs.Tables.{names_in}
 use Rattle.aeth_app.proofs.ranges.names.Given as goal
 

@@ -1,11 +1,9 @@
-use Rattle.std.proofs.Common.{◌∙◌, map, sym}
-use Rattle.std.specs.Prelude.{flat_map}
+use Rattle.std.proofs.Common.{◌∙◌, map, sym, flat_map}
 use Rattle.toml.specs.View.{table_view}
 use Rattle.aeth_document.specs.Walks.{no_name}
 use Rattle.aeth_app.specs.Ranges.{connection_ranges, numbers, range_checks}
 use Rattle.aeth_app.specs.Tables.{connections_in, cores_in, names_in, uses_in}
-use Rattle.aeth_app.proofs.RangeLemmas.{in_range}
-use Rattle.aeth_app.proofs.WalkParts.{found-five}
+use Rattle.aeth_app.proofs.{RangeLemmas.in_range, WalkParts.found-five}
 use Rattle.aeth_app.proofs.ranges.out_of_range.Goals as goal
 
 -- The walk over the numbers, the names and the wishes finds the first.

@@ -1,8 +1,6 @@
-use Rattle.std.proofs.Common.{◌≡◌, ℕ, length, ap, subst, arith}
-use Rattle.std.specs.Prelude.{All}
+use Rattle.std.proofs.Common.{◌≡◌, ℕ, length, ap, subst, arith, All}
 use Rattle.toml.specs.View.{table_view}
-use Rattle.aeth_app.specs.App.{IsApp, IsConnection}
-use Rattle.aeth_app.specs.AppParts.{app_with}
+use Rattle.aeth_app.specs.{App.IsApp, App.IsConnection, AppParts.app_with}
 use Rattle.aeth_app.proofs.ToldLemmas.{are_names, is_app, is_app_of}
 use Rattle.aeth_app.proofs.reading.told_app.Goals as goal
 

@@ -1,11 +1,9 @@
-use Rattle.std.proofs.Common.{◌∙◌, [], sym}
-use Rattle.std.specs.Prelude.{flat_map}
+use Rattle.std.proofs.Common.{◌∙◌, [], sym, flat_map}
 use Rattle.toml.specs.View.{table_view}
 use Rattle.aeth_document.specs.Walks.{repeats}
 use Rattle.aeth_app.specs.Repeats.{repeat_checks, repeated_connections}
 use Rattle.aeth_app.specs.Tables.{connections_in, cores_in, names_in, uses_in}
-use Rattle.aeth_app.proofs.RepeatLemmas.{are_apart}
-use Rattle.aeth_app.proofs.WalkParts.{found-four}
+use Rattle.aeth_app.proofs.{RepeatLemmas.are_apart, WalkParts.found-four}
 use Rattle.aeth_app.proofs.repeats.name_twice.Goals as goal
 
 -- The walk over the lists finds the first.

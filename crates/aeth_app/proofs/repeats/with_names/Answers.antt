@@ -1,9 +1,6 @@
-use Rattle.std.proofs.Common.{◌∙◌, ◌++◌, ◌∷◌, [], map, sym}
-use Rattle.std.specs.Prelude.{codes}
+use Rattle.std.proofs.Common.{◌∙◌, ◌++◌, ◌∷◌, [], map, sym, codes}
 use Rattle.toml.specs.View.{table_view}
-use Rattle.aeth_document.specs.Arrays.{tables_in}
-use Rattle.aeth_document.specs.Values.{text_at}
-use Rattle.aeth_document.specs.Walks.{repeats}
+use Rattle.aeth_document.specs.{Arrays.tables_in, Values.text_at, Walks.repeats}
 use Rattle.aeth_document.proofs.WalkLemmas.{walked-ended}
 use Rattle.aeth_app.specs.Tables.{names_in}
 use Rattle.aeth_app.proofs.repeats.with_names.Goals as goal

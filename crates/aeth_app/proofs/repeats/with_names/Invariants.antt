@@ -1,6 +1,5 @@
 use Rattle.std.proofs.Common.{◌≡◌, map}
-use Rattle.aeth_document.specs.Arrays.{tables_in}
-use Rattle.aeth_document.specs.Walks.{repeats, walked}
+use Rattle.aeth_document.specs.{Arrays.tables_in, Walks.repeats, Walks.walked}
 use Rattle.aeth_app.specs.Tables.{names_in}
 use Rattle.aeth_app.proofs.repeats.with_names.Given as goal
 

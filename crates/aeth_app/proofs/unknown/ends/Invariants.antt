@@ -1,7 +1,5 @@
-use Rattle.std.proofs.Common.{◌≡◌, map}
-use Rattle.std.specs.Prelude.{flat_map}
-use Rattle.aeth_document.specs.Arrays.{tables_in}
-use Rattle.aeth_document.specs.Walks.{walked}
+use Rattle.std.proofs.Common.{◌≡◌, map, flat_map}
+use Rattle.aeth_document.specs.{Arrays.tables_in, Walks.walked}
 use Rattle.aeth_app.specs.Unknown.{ends_in, unknown}
 use Rattle.aeth_app.proofs.unknown.ends.Given as goal
 

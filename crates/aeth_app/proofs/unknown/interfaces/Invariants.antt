@@ -1,9 +1,5 @@
-use Rattle.std.proofs.Common.{◌≡◌, map}
-use Rattle.std.specs.Prelude.{codes}
-use Rattle.std.specs.List.{filter_map}
-use Rattle.aeth_document.specs.Arrays.{tables_in}
-use Rattle.aeth_document.specs.Values.{text_if}
-use Rattle.aeth_document.specs.Walks.{walked}
+use Rattle.std.{proofs.Common.◌≡◌, proofs.Common.map, proofs.Common.codes, specs.List.filter_map}
+use Rattle.aeth_document.specs.{Arrays.tables_in, Values.text_if, Walks.walked}
 use Rattle.aeth_app.specs.Unknown.{unknown}
 use Rattle.aeth_app.proofs.unknown.interfaces.Given as goal
 

@@ -1,6 +1,5 @@
 use Rattle.std.proofs.Common.{◌≡◌, map}
-use Rattle.aeth_document.specs.Arrays.{texts_in}
-use Rattle.aeth_document.specs.Walks.{walked}
+use Rattle.aeth_document.specs.{Arrays.texts_in, Walks.walked}
 use Rattle.aeth_app.specs.Unknown.{unknown}
 use Rattle.aeth_app.proofs.unknown.texts.Given as goal
 

@@ -1,8 +1,5 @@
-use Rattle.std.proofs.Common.{◌≡◌, map}
-use Rattle.std.specs.Prelude.{flat_map}
-use Rattle.aeth_document.specs.Arrays.{tables_in}
-use Rattle.aeth_document.specs.Values.{texts_at}
-use Rattle.aeth_document.specs.Walks.{walked}
+use Rattle.std.proofs.Common.{◌≡◌, map, flat_map}
+use Rattle.aeth_document.specs.{Arrays.tables_in, Values.texts_at, Walks.walked}
 use Rattle.aeth_app.specs.Unknown.{unknown}
 use Rattle.aeth_app.proofs.unknown.texts_of.Given as goal
 

@@ -1,5 +1,4 @@
-use Rattle.std.proofs.Common.{map}
-use Rattle.std.specs.Prelude.{codes, flat_map}
+use Rattle.std.proofs.Common.{map, codes, flat_map}
 use Rattle.std.specs.List.{filter_map}
 use Rattle.toml.specs.View.{table_view}
 use Rattle.aeth_document.specs.Values.{text_if, texts_at}

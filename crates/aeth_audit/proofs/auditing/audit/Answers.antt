@@ -1,12 +1,8 @@
-use Rattle.std.proofs.Common.{◌≤◌, ◌<◌, ◌∙◌, List, length, ap, subst, sym, arith}
-use Rattle.std.specs.Prelude.{All, nat_lt}
+use Rattle.std.proofs.Common.{◌≤◌, ◌<◌, ◌∙◌, List, length, ap, subst, sym, arith, All, nat_lt}
 use Rattle.std.proofs.lemmas.List.Elements.{All-filter}
 use Rattle.aeth_accepted.specs.Inputs.{design_on}
-use Rattle.aeth_audit.specs.Audit.{first_fault}
-use Rattle.aeth_audit.specs.Judged.{quiet}
-use Rattle.aeth_audit.specs.Limits.{max_link_rows}
-use Rattle.aeth_audit.specs.Starts.{AreStarts}
-use Rattle.aeth_audit.specs.declared.row.LinkRow.{LinkRow}
+use Rattle.aeth_audit.specs.{Audit.first_fault, Judged.quiet, Limits.max_link_rows}
+use Rattle.aeth_audit.specs.{Starts.AreStarts, declared.row.LinkRow.LinkRow}
 use Rattle.aeth_audit.proofs.AuditLemmas.{is_judge, is_judge_of, quiet-accepted}
 use Rattle.aeth_audit.proofs.auditing.audit.Goals as goal
 

@@ -1,9 +1,7 @@
-use Rattle.std.proofs.Common.{◌∙◌, List, ap, subst, sym, rules}
-use Rattle.std.specs.Prelude.{filter, nat_lt}
+use Rattle.std.proofs.Common.{◌∙◌, List, ap, subst, sym, rules, filter, nat_lt}
 use Rattle.std.proofs.lemmas.List.Sorted.{IsPartitionPoint-from_clause, IsPartitionedBy-ltb}
 use Rattle.aeth_text.specs.Order.{Rises}
-use Rattle.aeth_audit.specs.LinkLog.{is_later}
-use Rattle.aeth_audit.specs.declared.row.LinkRow.{LinkRow}
+use Rattle.aeth_audit.specs.{LinkLog.is_later, declared.row.LinkRow.LinkRow}
 use Rattle.aeth_audit.proofs.SearchLemmas.{before-end, cycles-rise, rises-take}
 use Rattle.aeth_audit.proofs.auditing.rows_until.Goals as goal
 

@@ -1,5 +1,4 @@
-use Rattle.std.proofs.Common.{filter}
-use Rattle.std.specs.Prelude.{nat_lt}
+use Rattle.std.proofs.Common.{filter, nat_lt}
 use Rattle.aeth_reconf.specs.Timeline.{timeline_of}
 use Rattle.aeth_audit.proofs.FaultLemmas.{audit-is}
 use Rattle.aeth_audit.proofs.laws.audits.Goals as goal

@@ -1,8 +1,7 @@
 use Rattle.std.proofs.Common.{◌∙◌, ◌++◌, ◌∷◌, [], ap, arith, decimal, sym}
 use Rattle.std.proofs.Math.ListN.{drop_of_length-le}
-use Rattle.aeth_text.specs.Limits.{comma, line_feed}
+use Rattle.aeth_text.{specs.Limits.comma, specs.Limits.line_feed, proofs.LineLemmas.behind-five}
 use Rattle.aeth_audit.specs.Lines.{line_room}
-use Rattle.aeth_text.proofs.LineLemmas.{behind-five}
 use Rattle.aeth_audit.proofs.lines.write_row.Goals as goal
 
 -- Each number stands before those that were written, and nothing behind the last byte.

@@ -1,10 +1,8 @@
 use Rattle.std.proofs.Common.{◌≡◌, ◌≤◌, ◌<◌, ◌∙◌, ℕ, ◌+◌, length, refl, ap, subst, arith}
 use Rattle.std.proofs.lemmas.List.Elements.{All-contains}
-use Rattle.aeth_base.specs.declared.ids.LinkId.{LinkId}
-use Rattle.aeth_base.proofs.Members.{Contains-slice_get}
+use Rattle.aeth_base.{specs.declared.ids.LinkId.LinkId, proofs.Members.Contains-slice_get}
 use Rattle.aeth_slots.specs.SlotSet.{Slots}
-use Rattle.aeth_audit.specs.Places.{Adds, IsOfGrant}
-use Rattle.aeth_audit.specs.declared.places.Place.{Place}
+use Rattle.aeth_audit.specs.{Places.Adds, Places.IsOfGrant, declared.places.Place.Place}
 use Rattle.aeth_audit.proofs.CellLemmas.{adds-both, adds-none, adds-same}
 use Rattle.aeth_audit.proofs.PlaceLemmas.{cells-within, of_grant-more, of_grant-none}
 use Rattle.aeth_audit.proofs.places.put_grant.Goals as goal

@@ -1,6 +1,5 @@
 use Rattle.std.proofs.Common.{◌≤◌, ◌-◌, arith}
-use Rattle.std.proofs.lemmas.Bool.{false≢true}
-use Rattle.std.proofs.lemmas.Option.{slice_get-get_or}
+use Rattle.std.proofs.lemmas.{Bool.false≢true, Option.slice_get-get_or}
 use Rattle.aeth_audit.proofs.SessionLemmas.{none-open, open-is}
 use Rattle.aeth_audit.proofs.sessions.has_open.Goals as goal
 

@@ -1,6 +1,5 @@
 use Rattle.std.proofs.Common.{ℕ, get_or, subst, arith}
-use Rattle.aeth_audit.specs.Starts.{PutsUntil}
-use Rattle.aeth_audit.specs.declared.row.LinkRow.{LinkRow}
+use Rattle.aeth_audit.specs.{Starts.PutsUntil, declared.row.LinkRow.LinkRow}
 use Rattle.aeth_audit.proofs.StartLemmas.{starts-more}
 use Rattle.aeth_audit.proofs.starts.starts_of.Goals as goal
 

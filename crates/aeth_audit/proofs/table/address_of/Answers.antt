@@ -1,10 +1,8 @@
 use Rattle.std.proofs.Common.{◌∙◌, ◌+◌, ◌*◌, ap, sym}
 use Rattle.std.proofs.lemmas.Option.{get_or_from_slice_get}
 use Rattle.aeth_base.specs.declared.ids.CoreId.{CoreId}
-use Rattle.aeth_app.specs.App.{position_of}
-use Rattle.aeth_app.specs.Connections.{receiver}
-use Rattle.aeth_app.specs.Limits.{max_core_connections}
-use Rattle.aeth_app.specs.declared.connection.Connection.{Connection}
+use Rattle.aeth_app.specs.{App.position_of, Connections.receiver, Limits.max_core_connections}
+use Rattle.aeth_app.specs.{declared.connection.Connection.Connection}
 use Rattle.aeth_report.specs.Design.{no_connection}
 use Rattle.aeth_audit.specs.Tables.{seat_number}
 use Rattle.aeth_audit.proofs.table.address_of.Goals as goal

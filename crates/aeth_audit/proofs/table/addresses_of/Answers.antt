@@ -1,8 +1,7 @@
 use Rattle.std.proofs.Common.{◌∙◌, ◌++◌, List, [], ◌∷◌, get_or, map, take, ap, sym}
 use Rattle.std.proofs.lemmas.List.{map_push, take_more}
 use Rattle.aeth_group.specs.declared.grant.Grant.{Grant}
-use Rattle.aeth_audit.specs.Tables.{address_of}
-use Rattle.aeth_audit.specs.declared.table.Address.{Address}
+use Rattle.aeth_audit.specs.{Tables.address_of, declared.table.Address.Address}
 use Rattle.aeth_audit.proofs.table.addresses_of.Goals as goal
 
 -- One more address.

@@ -1,8 +1,8 @@
 use Rattle.std.proofs.Common.{◌*◌, ◌/◌, ◌+◌, inl, inr, arith}
 use Rattle.std.proofs.lemmas.Bool.{cases_lt}
 use Rattle.aeth_base.proofs.MarkLemmas.{bit_of-below, bit_of-found, bit_of-left}
-use Rattle.aeth_base.proofs.marks.first_from.Goals as goal
 use Rattle.aeth_base.specs.Marks.{numbers_of_mask}
+use Rattle.aeth_base.proofs.marks.first_from.Goals as goal
 
 -- No number before the first one of the mask is marked.
 pub returns-then-rest-ne0-clause-none : goal.returns-then-rest-ne0-clause-none

@@ -1,8 +1,8 @@
 use Rattle.std.proofs.Common.{◌*◌, ◌/◌, ◌+◌, ◌-◌, arith, inl, inr}
 use Rattle.std.proofs.lemmas.Bool.{cases_lt}
 use Rattle.aeth_base.proofs.MarkLemmas.{bit_of-first, bit_of-lowest, mask-within}
-use Rattle.aeth_base.proofs.marks.first_in.Goals as goal
 use Rattle.aeth_base.specs.Marks.{numbers_of_mask}
+use Rattle.aeth_base.proofs.marks.first_in.Goals as goal
 
 -- No number before the first one of the mask is marked.
 pub returns-then-mask-ne0-clause-none : goal.returns-then-mask-ne0-clause-none

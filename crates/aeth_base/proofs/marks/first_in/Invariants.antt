@@ -1,6 +1,6 @@
 use Rattle.std.proofs.Common.{◌≡◌, ◌≤◌, ◌<◌, ◌*◌, ◌+◌, ℕ}
-use Rattle.aeth_base.proofs.marks.first_in.Given as goal
 use Rattle.aeth_base.specs.Marks.{bit_of, numbers_of_mask}
+use Rattle.aeth_base.proofs.marks.first_in.Given as goal
 
 -- No number of the masks so far is marked.
 abbrev pub invariant-loop-mask : goal.invariant-loop-mask

@@ -1,6 +1,5 @@
-use Rattle.std.proofs.Common.{◌%◌, ◌∙◌, arith}
-use Rattle.std.specs.Int.{w64}
-use Rattle.std.proofs.lemmas.Nat.Bits.{bit_at_set_other, bit_at_set_same}
+use Rattle.std.{proofs.Common.◌%◌, proofs.Common.◌∙◌, proofs.Common.arith, specs.Int.w64}
+use Rattle.std.{proofs.lemmas.Nat.Bits.bit_at_set_other, proofs.lemmas.Nat.Bits.bit_at_set_same}
 use Rattle.aeth_base.proofs.MarkLemmas.{bit_of-away, bit_of-here}
 use Rattle.aeth_base.proofs.marks.mark.Goals as goal
 

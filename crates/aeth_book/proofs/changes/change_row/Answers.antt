@@ -1,7 +1,6 @@
 use Rattle.std.proofs.Common.{◌≡◌, ◌<◌, ◌+◌, ◌*◌, length, arith, ap, ◌∙◌, sym, take}
 use Rattle.aeth_base.specs.declared.ids.LinkId.{LinkId}
-use Rattle.aeth_chip.specs.Paths.{offset}
-use Rattle.aeth_chip.proofs.OffsetLemmas.{offset-more}
+use Rattle.aeth_chip.{specs.Paths.offset, proofs.OffsetLemmas.offset-more}
 use Rattle.aeth_slots.specs.SlotSet.{Slots}
 use Rattle.aeth_group.specs.Tables.{changed, hits_row}
 use Rattle.aeth_group.proofs.ListLemmas.{all_at}

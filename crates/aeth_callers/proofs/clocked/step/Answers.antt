@@ -1,10 +1,8 @@
-use Rattle.std.proofs.Common.{◌∙◌, ◌<◌, length, slice_index_or, subst, sym}
-use Rattle.std.specs.Prelude.{All}
+use Rattle.std.proofs.Common.{◌∙◌, ◌<◌, length, slice_index_or, subst, sym, All}
 use Rattle.std.proofs.lemmas.List.Elements.{All-map}
 use Rattle.aeth_clocked.specs.Wires.{AreLinks}
-use Rattle.aeth_router.specs.Part.{after_of, inputs_of}
-use Rattle.aeth_router.specs.PartAgreement.{inputs_of-after}
-use Rattle.aeth_router.specs.declared.part.Part.{Part}
+use Rattle.aeth_router.specs.{Part.after_of, Part.inputs_of, PartAgreement.inputs_of-after}
+use Rattle.aeth_router.specs.{declared.part.Part.Part}
 use Rattle.aeth_callers.proofs.clocked.step.Goals as goal
 
 -- A component keeps its inputs when it drives, and no wire is added.

@@ -1,5 +1,4 @@
-use Rattle.std.proofs.Common.{◌∙◌, length, sym, arith}
-use Rattle.std.proofs.lemmas.Bool.{eqb-false}
+use Rattle.std.proofs.{Common.◌∙◌, Common.length, Common.sym, Common.arith, lemmas.Bool.eqb-false}
 use Rattle.aeth_base.specs.declared.ids.Side.TheVariants.{Fwd}
 use Rattle.aeth_chain.proofs.ShapeLemmas.{behind, behind-count, latency-next}
 use Rattle.aeth_chain.proofs.bound.+latency_along.Goals as goal

@@ -1,10 +1,8 @@
 use Rattle.std.proofs.Common.{◌≡◌, ◌∙◌, ap, length, map, arith}
-use Rattle.std.specs.List.{range_with_len}
 use Rattle.std.proofs.lemmas.List.FromFn.{length-map-range_with_len}
-use Rattle.aeth_server.specs.PrivateServer.{landed}
-use Rattle.aeth_server.specs.WordCycles.{sending_cycle}
-use Rattle.aeth_chain.specs.ChainRun.{landing_on}
-use Rattle.aeth_chain.specs.Lanes.{legs_in, run_in, server_in}
+use Rattle.std.specs.List.{range_with_len}
+use Rattle.aeth_server.specs.{PrivateServer.landed, WordCycles.sending_cycle}
+use Rattle.aeth_chain.specs.{ChainRun.landing_on, Lanes.legs_in, Lanes.run_in, Lanes.server_in}
 use Rattle.aeth_chain.proofs.LandedLemmas.{landed-all, landed-at, landed-more, landed-none}
 use Rattle.aeth_chain.proofs.LaneLemmas.{cycles-at, cycles-count, map-more, sending-most}
 use Rattle.aeth_chain.proofs.landing.landings_of.Goals as goal

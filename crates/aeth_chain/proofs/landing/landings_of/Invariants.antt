@@ -1,5 +1,4 @@
-use Rattle.std.proofs.Common.{◌≡◌, ◌≤◌, map}
-use Rattle.std.specs.List.{range_with_len}
+use Rattle.std.{proofs.Common.◌≡◌, proofs.Common.◌≤◌, proofs.Common.map, specs.List.range_with_len}
 use Rattle.aeth_server.specs.PrivateServer.{landed}
 use Rattle.aeth_chain.specs.ChainRun.{chain_time, landing_on}
 use Rattle.aeth_chain.specs.Lanes.{legs_in, run_in, server_in}

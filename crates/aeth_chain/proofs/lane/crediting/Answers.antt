@@ -1,6 +1,5 @@
 use Rattle.std.proofs.Common.{subst, sym, arith}
-use Rattle.aeth_server.specs.SlotCycles.{IsNextCycle}
-use Rattle.aeth_server.proofs.WordCycles.{word-credited}
+use Rattle.aeth_server.{specs.SlotCycles.IsNextCycle, proofs.WordCycles.word-credited}
 use Rattle.aeth_chain.specs.Lanes.{server_in}
 use Rattle.aeth_chain.proofs.LaneLemmas.{lane-opens, ord_min-nat}
 use Rattle.aeth_chain.proofs.lane.crediting.Goals as goal

@@ -1,5 +1,4 @@
-use Rattle.std.proofs.Common.{◌≡◌, ◌≤◌, ◌∙◌, ◌*◌, ℕ, ap, max, sym, arith}
-use Rattle.std.specs.Prelude.{slice_index}
+use Rattle.std.proofs.Common.{◌≡◌, ◌≤◌, ◌∙◌, ◌*◌, ℕ, ap, max, sym, arith, slice_index}
 use Rattle.aeth_base.specs.Limits.{max_cycles, words_per_flit}
 use Rattle.aeth_server.specs.PrivateServer.{accepted}
 use Rattle.aeth_server.specs.WordCycles.{crediting_cycle, sending_cycle}

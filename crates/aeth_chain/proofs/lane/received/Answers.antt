@@ -1,13 +1,12 @@
 use Rattle.std.proofs.Common.{◌≡◌, ◌+◌, subst, arith}
 use Rattle.aeth_server.specs.PrivateServer.{pull_at as server_pull}
-use Rattle.aeth_trace.specs.Receivers.{pulls_on}
-use Rattle.aeth_trace.specs.declared.receivers.PullRow.{PullRow}
+use Rattle.aeth_trace.specs.{Receivers.pulls_on, declared.receivers.PullRow.PullRow}
 use Rattle.aeth_trace.proofs.OrderLemmas.{until_later}
 use Rattle.aeth_chain.specs.Lanes.{server_in}
 use Rattle.aeth_chain.proofs.LaneLemmas.{lane-opens, lane-pull}
 use Rattle.aeth_chain.proofs.ReceiverLemmas.{IsWaiting, receives-in, waits-new, waits-old, waits-on}
-use Rattle.aeth_chain.proofs.lane.received.Goals as goal
 use Rattle.aeth_chain.proofs.lane.received.Goals.{then-landed-cycle, else-landed-cycle}
+use Rattle.aeth_chain.proofs.lane.received.Goals as goal
 
 -- It lands behind the cycle of the last word, or has landed by it.
 pub wait-init : goal.wait-init

@@ -1,7 +1,6 @@
 use Rattle.std.proofs.Common.{◌≤◌, ◌-◌, length}
 use Rattle.aeth_trace.specs.Receivers.{pulls_until}
-use Rattle.aeth_chain.specs.Lanes.{server_in}
-use Rattle.aeth_chain.proofs.ReceiverLemmas.{IsWaiting}
+use Rattle.aeth_chain.{specs.Lanes.server_in, proofs.ReceiverLemmas.IsWaiting}
 use Rattle.aeth_chain.proofs.lane.received.Given as goal
 
 -- The word is waited for.

@@ -1,7 +1,6 @@
 use Rattle.std.proofs.Common.{◌+◌, sym, arith}
 use Rattle.aeth_server.specs.WordCycles.{crediting_cycle, sending_cycle, taking_cycle}
-use Rattle.aeth_server.proofs.PrivateServerLemmas.{counts-none}
-use Rattle.aeth_server.proofs.WordCycles.{word-landed}
+use Rattle.aeth_server.proofs.{PrivateServerLemmas.counts-none, WordCycles.word-landed}
 use Rattle.aeth_chain.specs.Lanes.{server_in}
 use Rattle.aeth_chain.proofs.LaneLemmas.{lane-opens, map-more, ord_min-nat}
 use Rattle.aeth_chain.proofs.ReceiverLemmas.{receives-first}

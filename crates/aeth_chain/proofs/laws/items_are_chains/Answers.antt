@@ -1,7 +1,6 @@
 use Rattle.aeth_tables.proofs.PromiseLaws.{keep_promises}
-use Rattle.aeth_chain.proofs.TabledShapes.{found-chain, found-shapes, tables-use}
-use Rattle.aeth_chain.proofs.ToldLemmas.{told-items}
-use Rattle.aeth_chain.proofs.WorkLemmas.{word-items}
+use Rattle.aeth_chain.proofs.{TabledShapes.found-chain, TabledShapes.found-shapes}
+use Rattle.aeth_chain.proofs.{TabledShapes.tables-use, ToldLemmas.told-items, WorkLemmas.word-items}
 use Rattle.aeth_chain.proofs.laws.items_are_chains.Goals as goal
 
 -- A word tells names of items.

@@ -1,5 +1,4 @@
-use Rattle.std.proofs.Common.{◌+◌, sym, arith}
-use Rattle.std.proofs.lemmas.List.{get_or-map}
+use Rattle.std.proofs.{Common.◌+◌, Common.sym, Common.arith, lemmas.List.get_or-map}
 use Rattle.aeth_chain.specs.declared.passing.Offer.{Offer}
 use Rattle.aeth_chain.proofs.passing.offer_behind.Goals as goal
 

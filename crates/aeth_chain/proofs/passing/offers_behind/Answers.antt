@@ -1,10 +1,8 @@
-use Rattle.std.proofs.Common.{◌∙◌, ◌≡◌, ap, filter, length, map, arith}
-use Rattle.std.specs.Prelude.{nat_lt}
+use Rattle.std.proofs.Common.{◌∙◌, ◌≡◌, ap, filter, length, map, arith, nat_lt}
 use Rattle.std.specs.List.{range_with_len}
 use Rattle.aeth_server.specs.WordCycles.{taking_cycle}
-use Rattle.aeth_chain.specs.ChainRun.{offer_behind}
-use Rattle.aeth_chain.specs.Lanes.{leg_in, server_in}
-use Rattle.aeth_chain.specs.declared.passing.Offer.{Offer}
+use Rattle.aeth_chain.specs.{ChainRun.offer_behind, Lanes.leg_in, Lanes.server_in}
+use Rattle.aeth_chain.specs.{declared.passing.Offer.Offer}
 use Rattle.aeth_chain.proofs.LaneLemmas.{cycles-at, cycles-count, kept-more, taking-most}
 use Rattle.aeth_chain.proofs.passing.offers_behind.Goals as goal
 

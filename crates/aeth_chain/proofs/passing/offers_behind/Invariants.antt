@@ -1,8 +1,6 @@
-use Rattle.std.proofs.Common.{◌≡◌, filter, map}
-use Rattle.std.specs.Prelude.{nat_lt}
+use Rattle.std.proofs.Common.{◌≡◌, filter, map, nat_lt}
 use Rattle.std.specs.List.{range_with_len}
-use Rattle.aeth_chain.specs.ChainRun.{offer_behind}
-use Rattle.aeth_chain.specs.Lanes.{leg_in}
+use Rattle.aeth_chain.specs.{ChainRun.offer_behind, Lanes.leg_in}
 use Rattle.aeth_chain.proofs.passing.offers_behind.Given as goal
 
 -- What is offered of the words so far.

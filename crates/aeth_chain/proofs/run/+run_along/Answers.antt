@@ -1,20 +1,15 @@
 use Rattle.std.proofs.Common.{◌≡◌, ◌∙◌, ◌<◌, ◌≤◌, ap, get_or, length, rules, subst, sym, arith}
-use Rattle.std.specs.Result.{IfOk}
-use Rattle.std.specs.declared.alloc.Global.{Global}
-use Rattle.std.specs.declared.vec.Vec.{Vec}
 use Rattle.std.proofs.lemmas.Bool.{eqb-false}
+use Rattle.std.specs.{Result.IfOk, declared.alloc.Global.Global, declared.vec.Vec.Vec}
 use Rattle.aeth_base.specs.declared.ids.Side.TheVariants.{Fwd}
 use Rattle.aeth_server.specs.ChannelShape.{IsShapeInRange}
 use Rattle.aeth_report.specs.declared.log.Landing.{Landing}
-use Rattle.aeth_chain.specs.Chain.{Leg, leg_of, legs_of}
-use Rattle.aeth_chain.specs.ChainRun.{landings_along, runs_along}
-use Rattle.aeth_chain.specs.Lanes.{AreOffers, legs_in}
-use Rattle.aeth_chain.specs.Limits.{max_work}
-use Rattle.aeth_chain.specs.declared.item.ChainItem.{ChainItem}
-use Rattle.aeth_chain.proofs.AlongLemmas.{landings-next}
-use Rattle.aeth_chain.proofs.LaneLemmas.{shape-paths}
-use Rattle.aeth_chain.proofs.OfferLemmas.{passed-few, passed-offers}
-use Rattle.aeth_chain.proofs.ShapeLemmas.{behind, behind-All, behind-count}
+use Rattle.aeth_chain.specs.{Chain.Leg, Chain.leg_of, Chain.legs_of, ChainRun.landings_along}
+use Rattle.aeth_chain.specs.{ChainRun.runs_along, Lanes.AreOffers, Lanes.legs_in, Limits.max_work}
+use Rattle.aeth_chain.specs.{declared.item.ChainItem.ChainItem}
+use Rattle.aeth_chain.proofs.{AlongLemmas.landings-next, LaneLemmas.shape-paths}
+use Rattle.aeth_chain.proofs.{OfferLemmas.passed-few, OfferLemmas.passed-offers, ShapeLemmas.behind}
+use Rattle.aeth_chain.proofs.{ShapeLemmas.behind-All, ShapeLemmas.behind-count}
 use Rattle.aeth_chain.proofs.run.+run_along.Goals as goal
 
 -- What stands for an item where there is none.

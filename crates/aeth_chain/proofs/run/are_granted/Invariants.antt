@@ -1,7 +1,5 @@
-use Rattle.std.proofs.Common.{take}
-use Rattle.std.specs.Prelude.{All}
-use Rattle.aeth_server.specs.ChannelShape.{shape_of}
-use Rattle.aeth_server.specs.Shape.{IsGranted}
+use Rattle.std.proofs.Common.{take, All}
+use Rattle.aeth_server.specs.{ChannelShape.shape_of, Shape.IsGranted}
 use Rattle.aeth_chain.proofs.run.are_granted.Given as goal
 
 -- The shapes so far are.

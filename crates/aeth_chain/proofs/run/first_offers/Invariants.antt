@@ -1,5 +1,4 @@
-use Rattle.std.proofs.Common.{◌≡◌, filter, map, take}
-use Rattle.std.specs.Prelude.{nat_lt}
+use Rattle.std.proofs.Common.{◌≡◌, filter, map, take, nat_lt}
 use Rattle.aeth_trace.specs.Words.{words_on}
 use Rattle.aeth_chain.specs.ChainRun.{offer_of}
 use Rattle.aeth_chain.proofs.run.first_offers.Given as goal

@@ -1,12 +1,9 @@
 use Rattle.std.proofs.Common.{◌∙◌, ◌-◌, ap, length, subst, arith}
 use Rattle.aeth_base.specs.declared.ids.Side.TheVariants.{Fwd}
-use Rattle.aeth_chain.specs.Chain.{legs_of, size_of}
-use Rattle.aeth_chain.specs.ChainRun.{ChainData}
-use Rattle.aeth_chain.specs.Lanes.{AreOffers}
-use Rattle.aeth_chain.specs.declared.item.ChainItem.{ChainItem}
-use Rattle.aeth_chain.proofs.AlongLemmas.{first-is, legs-count, legs-lands}
-use Rattle.aeth_chain.proofs.ChainedLemmas.{log-runs}
-use Rattle.aeth_chain.proofs.ShapeLemmas.{chain-legs}
+use Rattle.aeth_chain.specs.{Chain.legs_of, Chain.size_of, ChainRun.ChainData, Lanes.AreOffers}
+use Rattle.aeth_chain.specs.{declared.item.ChainItem.ChainItem}
+use Rattle.aeth_chain.proofs.{AlongLemmas.first-is, AlongLemmas.legs-count, AlongLemmas.legs-lands}
+use Rattle.aeth_chain.proofs.{ChainedLemmas.log-runs, ShapeLemmas.chain-legs}
 use Rattle.aeth_chain.proofs.run.run_chain.Goals as goal
 
 -- What stands for an item where there is none.

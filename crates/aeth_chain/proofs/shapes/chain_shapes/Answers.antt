@@ -1,13 +1,9 @@
-use Rattle.std.proofs.Common.{◌≡◌, subst, sym}
-use Rattle.std.specs.Prelude.{Vec}
-use Rattle.std.specs.Global.{Global}
+use Rattle.std.proofs.Common.{◌≡◌, subst, sym, Vec, Global}
 use Rattle.std.proofs.lemmas.Result.{IfOk-weaker}
 use Rattle.aeth_server.specs.declared.shape.ChannelShape.{ChannelShape}
 use Rattle.aeth_group.specs.Members.{groups_of}
-use Rattle.aeth_tables.specs.Tables.{tables_of}
-use Rattle.aeth_tables.proofs.PromiseLaws.{keep_promises}
-use Rattle.aeth_chain.specs.Chain.{IsChain}
-use Rattle.aeth_chain.specs.Shapes.{AreShapesIn, shapes_in}
+use Rattle.aeth_tables.{specs.Tables.tables_of, proofs.PromiseLaws.keep_promises}
+use Rattle.aeth_chain.specs.{Chain.IsChain, Shapes.AreShapesIn, Shapes.shapes_in}
 use Rattle.aeth_chain.proofs.TabledShapes.{found-chain, found-shapes, tables-use}
 use Rattle.aeth_chain.proofs.shapes.chain_shapes.Goals as goal
 

@@ -1,8 +1,6 @@
 use Rattle.std.proofs.Common.{◌∙◌, ◌++◌, [], ap, sym, take}
 use Rattle.std.specs.List.{cons_option, filter_map}
-use Rattle.aeth_chain.specs.declared.item.ChainItem.{ChainItem}
-use Rattle.aeth_chain.specs.ChainItems.{no_item}
-use Rattle.aeth_chain.specs.Shapes.{shape_in}
+use Rattle.aeth_chain.specs.{declared.item.ChainItem.ChainItem, ChainItems.no_item, Shapes.shape_in}
 use Rattle.aeth_chain.proofs.TabledShapes.{filter_map-more}
 use Rattle.aeth_chain.proofs.shapes.shapes_in.Goals as goal
 

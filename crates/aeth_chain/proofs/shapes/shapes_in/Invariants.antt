@@ -1,5 +1,4 @@
-use Rattle.std.proofs.Common.{◌≡◌, take}
-use Rattle.std.specs.List.{filter_map}
+use Rattle.std.{proofs.Common.◌≡◌, proofs.Common.take, specs.List.filter_map}
 use Rattle.aeth_chain.specs.Shapes.{shape_in}
 use Rattle.aeth_chain.proofs.shapes.shapes_in.Given as goal
 

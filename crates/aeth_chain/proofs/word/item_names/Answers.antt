@@ -1,14 +1,10 @@
-use Rattle.std.proofs.Common.{◌≡◌, ◌∙◌, ◌<◌, ◌≤◌, ◌∷◌, [], Bool, false, List, Some, ap}
-use Rattle.std.proofs.Common.{arith, inl, inr, length, sym}
-use Rattle.std.proofs.Common.{length-append}
-use Rattle.std.specs.Prelude.{◌↔◌, IsTrue}
+use Rattle.std.proofs.Common.{◌≡◌, ◌∙◌, ◌<◌, ◌≤◌, ◌∷◌, [], Bool, false, List, Some, ap, arith, inl}
+use Rattle.std.proofs.Common.{inr, length, sym, length-append, ◌↔◌, IsTrue}
 use Rattle.std.proofs.lemmas.Bool.{OnTrue_at, both_ways, cases_lt}
-use Rattle.aeth_text.specs.Grammar.{kept, parts}
-use Rattle.aeth_text.specs.Limits.{comma}
+use Rattle.aeth_text.specs.{Grammar.kept, Grammar.parts, Limits.comma}
 use Rattle.aeth_text.proofs.Fronts.{with_front}
-use Rattle.aeth_chain.specs.Limits.{max_chain_items}
-use Rattle.aeth_chain.specs.ItemNames.{item_names_of, items_in}
-use Rattle.aeth_chain.specs.declared.names.ItemName.{ItemName}
+use Rattle.aeth_chain.specs.{Limits.max_chain_items, ItemNames.item_names_of, ItemNames.items_in}
+use Rattle.aeth_chain.specs.{declared.names.ItemName.ItemName}
 use Rattle.aeth_chain.proofs.WordLemmas.{few, front-nil, kept-few, kept-many, next-item, next-none}
 use Rattle.aeth_chain.proofs.WordLemmas.{none-is, parts-some}
 use Rattle.aeth_chain.proofs.WorkLemmas.{word-items}

@@ -1,9 +1,7 @@
 use Rattle.std.proofs.Common.{◌≡◌, ◌≤◌, length}
-use Rattle.aeth_text.specs.Grammar.{parts, words_left}
-use Rattle.aeth_text.specs.Limits.{comma}
+use Rattle.aeth_text.specs.{Grammar.parts, Grammar.words_left, Limits.comma}
 use Rattle.aeth_text.proofs.Fronts.{with_front}
-use Rattle.aeth_chain.specs.Limits.{max_chain_items}
-use Rattle.aeth_chain.specs.ItemNames.{items_in}
+use Rattle.aeth_chain.specs.{Limits.max_chain_items, ItemNames.items_in}
 use Rattle.aeth_chain.proofs.word.item_names.Given as goal
 
 -- The items so far, and those of the pieces that are left.

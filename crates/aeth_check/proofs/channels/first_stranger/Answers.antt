@@ -1,7 +1,6 @@
 use Rattle.std.proofs.Common.{◌∙◌, ◌+◌, ◌∷◌, Bool, ap, drop, not, sym}
 use Rattle.std.proofs.lemmas.List.{drop_more}
-use Rattle.aeth_group.specs.declared.grant.Grant.{Grant}
-use Rattle.aeth_group.specs.Members.{is_member}
+use Rattle.aeth_group.specs.{declared.grant.Grant.Grant, Members.is_member}
 use Rattle.aeth_check.proofs.MeetingLaws.{line_here, line_on}
 use Rattle.aeth_check.proofs.channels.first_stranger.Goals as goal
 

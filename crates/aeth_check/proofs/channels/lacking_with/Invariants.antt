@@ -1,7 +1,6 @@
 use Rattle.std.proofs.Common.{◌≡◌}
-use Rattle.aeth_check.specs.Channels.{first_lacking}
+use Rattle.aeth_check.{specs.Channels.first_lacking, proofs.UnitLists.units_from}
 use Rattle.aeth_group.specs.Members.{units_with}
-use Rattle.aeth_check.proofs.UnitLists.{units_from}
 use Rattle.aeth_check.proofs.channels.lacking_with.Given as goal
 
 -- The first side without a grant is that of the groups that are left.

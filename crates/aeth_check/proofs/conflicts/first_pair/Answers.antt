@@ -1,6 +1,5 @@
 use Rattle.std.proofs.Common.{◌∙◌, sym, arith, subst}
-use Rattle.aeth_check.specs.Calls.{IsPlaced}
-use Rattle.aeth_check.specs.Meetings.{conflicts}
+use Rattle.aeth_check.specs.{Calls.IsPlaced, Meetings.conflicts}
 use Rattle.aeth_check.proofs.MeetingLaws.{no_pair, none_found, pair_found}
 use Rattle.aeth_check.proofs.conflicts.first_pair.Goals as goal
 

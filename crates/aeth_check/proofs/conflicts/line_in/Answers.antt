@@ -1,10 +1,8 @@
-use Rattle.std.proofs.Common.{◌∙◌, ◌+◌, ◌∷◌, [], Bool, drop, sym, ap}
-use Rattle.std.proofs.Math.Bool.{or-false}
-use Rattle.std.proofs.lemmas.List.{drop_more}
+use Rattle.std.proofs.{Common.◌∙◌, Common.◌+◌, Common.◌∷◌, Common.[], Common.Bool, Common.drop}
+use Rattle.std.proofs.{Common.sym, Common.ap, Math.Bool.or-false, lemmas.List.drop_more}
 use Rattle.aeth_group.specs.declared.grant.Grant.{Grant}
-use Rattle.aeth_check.specs.Meetings.{conflicts}
-use Rattle.aeth_check.proofs.ConflictLaws.{conflicts-sym}
-use Rattle.aeth_check.proofs.MeetingLaws.{line_here, line_on}
+use Rattle.aeth_check.{specs.Meetings.conflicts, proofs.ConflictLaws.conflicts-sym}
+use Rattle.aeth_check.{proofs.MeetingLaws.line_here, proofs.MeetingLaws.line_on}
 use Rattle.aeth_check.proofs.conflicts.line_in.Goals as goal
 
 -- This grant conflicts with the one that is held.

@@ -1,8 +1,6 @@
 use Rattle.std.proofs.Common.{◌≡◌, ◌∷◌, [], drop}
 use Rattle.aeth_group.specs.declared.grant.Grant.{Grant}
-use Rattle.aeth_check.specs.Firsts.{first_line}
-use Rattle.aeth_check.specs.Masks.{Holds}
-use Rattle.aeth_check.specs.Meetings.{conflicts}
+use Rattle.aeth_check.specs.{Firsts.first_line, Masks.Holds, Meetings.conflicts}
 use Rattle.aeth_check.proofs.conflicts.line_in.Given as goal
 
 -- The first grant that conflicts is among those that are left.

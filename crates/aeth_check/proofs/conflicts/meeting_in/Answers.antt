@@ -1,11 +1,8 @@
 use Rattle.std.proofs.Common.{◌∙◌, ◌-◌, ◌≡◌, ◌∷◌, [], List, Some, drop, length, sym, ap, subst}
 use Rattle.std.proofs.Common.{arith}
-use Rattle.std.proofs.lemmas.Bool.{cond-false, cond-true}
-use Rattle.std.proofs.lemmas.List.{drop_all}
+use Rattle.std.proofs.lemmas.{Bool.cond-false, Bool.cond-true, List.drop_all}
 use Rattle.aeth_group.specs.declared.grant.Grant.{Grant}
-use Rattle.aeth_check.specs.Calls.{first_meeting}
-use Rattle.aeth_check.specs.Masks.{Holds, is_held}
-use Rattle.aeth_check.specs.Meetings.{conflicts}
+use Rattle.aeth_check.specs.{Calls.first_meeting, Masks.Holds, Masks.is_held, Meetings.conflicts}
 use Rattle.aeth_check.proofs.MeetingLaws.{drop_back, meeting_back, meeting_within}
 use Rattle.aeth_check.proofs.conflicts.meeting_in.Goals.{else-meets_some, then-meets_some}
 use Rattle.aeth_check.proofs.conflicts.meeting_in.Goals as goal

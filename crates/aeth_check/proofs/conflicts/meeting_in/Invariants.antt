@@ -1,7 +1,5 @@
 use Rattle.std.proofs.Common.{◌≡◌, ◌≤◌, drop, length}
-use Rattle.aeth_check.specs.Calls.{first_meeting}
-use Rattle.aeth_check.specs.Masks.{Holds}
-use Rattle.aeth_check.specs.Meetings.{conflicts}
+use Rattle.aeth_check.specs.{Calls.first_meeting, Masks.Holds, Meetings.conflicts}
 use Rattle.aeth_check.proofs.conflicts.meeting_in.Given as goal
 
 -- The masks hold the grants from this one on, and the first of these that conflicts with one behind

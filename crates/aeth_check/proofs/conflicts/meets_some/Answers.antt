@@ -1,6 +1,5 @@
 use Rattle.std.proofs.Common.{◌∙◌}
-use Rattle.aeth_check.specs.Masks.{is_held}
-use Rattle.aeth_check.proofs.TouchLaws.{touches-any}
+use Rattle.aeth_check.{specs.Masks.is_held, proofs.TouchLaws.touches-any}
 use Rattle.aeth_check.proofs.conflicts.meets_some.Goals as goal
 
 -- Meeting what some grants hold is conflicting with one of them.

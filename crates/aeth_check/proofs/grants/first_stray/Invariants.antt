@@ -1,6 +1,5 @@
 use Rattle.std.proofs.Common.{◌≡◌, drop, not, slice_get}
-use Rattle.aeth_check.specs.Firsts.{first_line}
-use Rattle.aeth_check.specs.Channels.{fits_path}
+use Rattle.aeth_check.specs.{Firsts.first_line, Channels.fits_path}
 use Rattle.aeth_check.proofs.grants.first_stray.Given as goal
 
 -- The first stray path is among those that are left.

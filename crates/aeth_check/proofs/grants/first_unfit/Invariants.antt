@@ -1,6 +1,5 @@
 use Rattle.std.proofs.Common.{◌≡◌, drop, not, slice_get}
-use Rattle.aeth_check.specs.Firsts.{first_line}
-use Rattle.aeth_check.specs.Channels.{fits_slots}
+use Rattle.aeth_check.specs.{Firsts.first_line, Channels.fits_slots}
 use Rattle.aeth_check.proofs.grants.first_unfit.Given as goal
 
 -- The first unfit slots are among those that are left.

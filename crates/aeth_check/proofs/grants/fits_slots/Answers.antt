@@ -1,6 +1,5 @@
 use Rattle.std.proofs.Common.{◌+◌, ◌-◌, ◌∙◌, ap}
-use Rattle.aeth_app.specs.App.{wish_of}
-use Rattle.aeth_app.specs.declared.connection.Wish.{Wish}
+use Rattle.aeth_app.specs.{App.wish_of, declared.connection.Wish.Wish}
 use Rattle.aeth_check.proofs.SlotLaws.{suffices}
 use Rattle.aeth_check.proofs.grants.fits_slots.Goals as goal
 

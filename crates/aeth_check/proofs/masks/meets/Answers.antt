@@ -1,12 +1,11 @@
 use Rattle.std.proofs.Common.{◌&&◌, ◌∙◌, ℕ, Bool, length, sym, ap, arith}
-use Rattle.std.specs.List.{list_any}
 use Rattle.std.proofs.lemmas.Bool.{and_from, and_left, and_right}
+use Rattle.std.specs.List.{list_any}
 use Rattle.aeth_group.specs.Members.{has_unit}
 use Rattle.aeth_group.proofs.RowLemmas.{walk_end, walk_here, walk_on}
-use Rattle.aeth_check.specs.Meetings.{meets}
-use Rattle.aeth_check.proofs.UseLaws.{has_row, touches-uses_of}
-use Rattle.aeth_check.proofs.masks.meets.Goals.{else-has_unit-via-else-has_unit}
-use Rattle.aeth_check.proofs.masks.meets.Goals.{else-has_unit-via-then-has_unit+else-meets_row}
+use Rattle.aeth_check.{specs.Meetings.meets, proofs.UseLaws.has_row, proofs.UseLaws.touches-uses_of}
+use Rattle.aeth_check.{proofs.masks.meets.Goals.else-has_unit-via-else-has_unit}
+use Rattle.aeth_check.{proofs.masks.meets.Goals.else-has_unit-via-then-has_unit+else-meets_row}
 use Rattle.aeth_check.proofs.masks.meets.Goals as goal
 
 -- All use cases of the group decide it.

@@ -1,7 +1,6 @@
 use Rattle.std.proofs.Common.{◌≡◌, ◌&&◌, ℕ, Bool, drop, length}
 use Rattle.std.specs.List.{list_any}
-use Rattle.aeth_group.specs.Members.{has_unit}
-use Rattle.aeth_group.specs.Tables.{IsTable}
+use Rattle.aeth_group.specs.{Members.has_unit, Tables.IsTable}
 use Rattle.aeth_check.specs.Meetings.{meets, touches}
 use Rattle.aeth_check.proofs.masks.meets.Given as goal
 

@@ -3,8 +3,7 @@ use Rattle.std.proofs.lemmas.Option.{slice_get_within}
 use Rattle.aeth_base.specs.declared.ids.LinkId.{LinkId}
 use Rattle.aeth_chip.specs.Paths.{offset}
 use Rattle.aeth_slots.specs.SlotSet.{Slots}
-use Rattle.aeth_group.proofs.ListLemmas.{all_at}
-use Rattle.aeth_group.proofs.TableLemmas.{mask_size}
+use Rattle.aeth_group.proofs.{ListLemmas.all_at, TableLemmas.mask_size}
 use Rattle.aeth_check.proofs.MeetLaws.{mask_meets, meets_here, meets_on}
 use Rattle.aeth_check.proofs.TakenLaws.{taken-set, taken-within}
 use Rattle.aeth_check.proofs.masks.meets_row.Goals as goal

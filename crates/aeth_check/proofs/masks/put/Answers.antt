@@ -1,10 +1,9 @@
-use Rattle.std.proofs.Common.{length, true, ◌≤◌, ◌∙◌, ℕ, List, refl, sym, subst, arith}
-use Rattle.std.proofs.lemmas.List.{take_all}
+use Rattle.std.proofs.Common.{length, true, ◌≤◌, ◌∙◌, ℕ, List, refl, sym, subst, arith, take_all}
 use Rattle.aeth_group.specs.Tables.{Changes}
 use Rattle.aeth_group.proofs.TableLemmas.{changes-none, still_table}
 use Rattle.aeth_check.proofs.UseLaws.{has_row, hits_those, those-uses_of, those_skip, those_step}
-use Rattle.aeth_check.proofs.masks.put.Goals as goal
 use Rattle.aeth_check.proofs.masks.put.Goals.{then-has_unit, else-has_unit}
+use Rattle.aeth_check.proofs.masks.put.Goals as goal
 
 -- Nothing was put in.
 pub loop-u-init : goal.loop-u-init

@@ -1,7 +1,6 @@
 use Rattle.std.proofs.Common.{ap, sym, ◌∙◌}
-use Rattle.aeth_chip.specs.Nodes.{ends_at}
-use Rattle.aeth_chip.specs.declared.node.Node.TheVariants.{Router}
-use Rattle.aeth_chip.specs.PathTests.{link_passes}
+use Rattle.aeth_chip.specs.{Nodes.ends_at, declared.node.Node.TheVariants.Router}
+use Rattle.aeth_chip.specs.{PathTests.link_passes}
 use Rattle.aeth_check.proofs.Walks.{any_here, any_on}
 use Rattle.aeth_check.proofs.routes.comes_to.Goals as goal
 

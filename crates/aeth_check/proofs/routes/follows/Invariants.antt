@@ -1,7 +1,5 @@
 use Rattle.std.proofs.Common.{◌≡◌, ◌≤◌, drop, length}
-use Rattle.aeth_chip.specs.Nodes.{same_node}
-use Rattle.aeth_chip.specs.declared.node.Node.{Node}
-use Rattle.aeth_chip.specs.PathTests.{follows}
+use Rattle.aeth_chip.specs.{Nodes.same_node, declared.node.Node.Node, PathTests.follows}
 use Rattle.aeth_check.specs.Routes.{HasPlaces}
 use Rattle.aeth_check.proofs.routes.follows.Given as goal
 

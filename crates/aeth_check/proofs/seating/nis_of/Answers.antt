@@ -1,8 +1,7 @@
-use Rattle.std.proofs.Common.{◌≡◌, ◌∙◌, All, List, None, Option, length, refl, sym, ap, subst, arith}
-use Rattle.aeth_base.proofs.Lists.{written_back}
-use Rattle.aeth_base.specs.declared.ids.NiId.{NiId}
-use Rattle.aeth_check.specs.Seats.{AreSeatedAt}
-use Rattle.aeth_check.proofs.SeatLaws.{none_seated}
+use Rattle.std.proofs.Common.{◌≡◌, ◌∙◌, All, List, None, Option, length, refl, sym, ap, subst}
+use Rattle.std.proofs.Common.{arith}
+use Rattle.aeth_base.{proofs.Lists.written_back, specs.declared.ids.NiId.NiId}
+use Rattle.aeth_check.{specs.Seats.AreSeatedAt, proofs.SeatLaws.none_seated}
 use Rattle.aeth_check.proofs.seating.nis_of.Goals as goal
 
 -- No core has an interface yet.

@@ -1,10 +1,8 @@
-use Rattle.std.proofs.Common.{◌≡◌, ◌-◌, List, Some, drop, get_or, length, set, sym}
-use Rattle.std.proofs.Common.{subst, arith}
+use Rattle.std.proofs.Common.{◌≡◌, ◌-◌, List, Some, drop, get_or, length, set, sym, subst, arith}
 use Rattle.std.proofs.lemmas.List.{drop_all}
 use Rattle.aeth_group.specs.declared.grant.SeatLine.{SeatLine}
 use Rattle.aeth_check.specs.Seats.{AreSeatedAt}
-use Rattle.aeth_check.proofs.MeetingLaws.{drop_back_or}
-use Rattle.aeth_check.proofs.SeatLaws.{seat_beyond, seat_put}
+use Rattle.aeth_check.proofs.{MeetingLaws.drop_back_or, SeatLaws.seat_beyond, SeatLaws.seat_put}
 use Rattle.aeth_check.proofs.seating.put_nis.Goals as goal
 
 -- What stands where there is no seat.

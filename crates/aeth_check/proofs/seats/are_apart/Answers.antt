@@ -1,5 +1,5 @@
-use Rattle.std.proofs.Common.{◌≡◌, ◌∙◌, ◌-◌, ◌<◌, ℕ, Some, drop, false, get_or, length, set, true, sym}
-use Rattle.std.proofs.Common.{ap, subst, arith, Bool}
+use Rattle.std.proofs.Common.{◌≡◌, ◌∙◌, ◌-◌, ◌<◌, ℕ, Some, drop, false, get_or, length, set, true}
+use Rattle.std.proofs.Common.{sym, ap, subst, arith, Bool}
 use Rattle.std.proofs.lemmas.Option.{slice_get-get_or}
 use Rattle.aeth_check.specs.Seats.{HasMarks, seat_place}
 use Rattle.aeth_check.proofs.MarkLaws.{apart_back, mark_back, no_line_of_seat}

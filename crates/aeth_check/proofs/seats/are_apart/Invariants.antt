@@ -1,6 +1,5 @@
 use Rattle.std.proofs.Common.{◌≡◌, ◌≤◌, ℕ, None, drop, length}
-use Rattle.aeth_check.specs.Firsts.{first_pair}
-use Rattle.aeth_check.specs.Seats.{HasMarks, is_one_seat}
+use Rattle.aeth_check.specs.{Firsts.first_pair, Seats.HasMarks, Seats.is_one_seat}
 use Rattle.aeth_check.proofs.seats.are_apart.Given as goal
 
 -- The seats from this one on are marked, and apart.

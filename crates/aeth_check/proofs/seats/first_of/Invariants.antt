@@ -1,5 +1,4 @@
-use Rattle.std.proofs.Common.{◌≡◌, drop}
-use Rattle.std.specs.Prelude.{◌==◌}
+use Rattle.std.proofs.Common.{◌≡◌, drop, ◌==◌}
 use Rattle.aeth_check.specs.Firsts.{first_line}
 use Rattle.aeth_check.proofs.seats.first_of.Given as goal
 

@@ -1,6 +1,5 @@
 use Rattle.std.proofs.Common.{◌≡◌, length}
-use Rattle.aeth_check.specs.Firsts.{first_pair}
-use Rattle.aeth_check.specs.Seats.{is_one_seat}
+use Rattle.aeth_check.specs.{Firsts.first_pair, Seats.is_one_seat}
 use Rattle.aeth_check.proofs.seats.first_pair.Given as goal
 
 -- The first two that are one are among those that are left.

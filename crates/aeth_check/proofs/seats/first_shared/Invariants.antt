@@ -1,6 +1,5 @@
 use Rattle.std.proofs.Common.{◌≡◌, drop}
-use Rattle.aeth_check.specs.Firsts.{first_line}
-use Rattle.aeth_check.specs.Seats.{is_one_seat}
+use Rattle.aeth_check.specs.{Firsts.first_line, Seats.is_one_seat}
 use Rattle.aeth_check.proofs.seats.first_shared.Given as goal
 
 -- The first that is this seat is among those that are left.

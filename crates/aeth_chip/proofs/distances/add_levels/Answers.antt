@@ -1,6 +1,5 @@
-use Rattle.aeth_chip.specs.Levels.{AreLevels, IsOrigin}
+use Rattle.aeth_chip.{specs.Levels.AreLevels, specs.Levels.IsOrigin, proofs.Pushes.table-push}
 use Rattle.std.proofs.Common.{◌+◌, length}
-use Rattle.aeth_chip.proofs.Pushes.{table-push}
 use Rattle.aeth_chip.proofs.distances.add_levels.Goals as goal
 
 -- One more row.

@@ -1,13 +1,11 @@
-use Rattle.std.proofs.Common.{◌≡◌, ◌+◌, ℕ, List, Option, Some, length, slice_get, subst, arith}
-use Rattle.std.specs.Prelude.{Err, IfOk, Ok, Result}
-use Rattle.std.specs.declared.vec.Vec.{Vec}
-use Rattle.std.specs.declared.alloc.Global.{Global}
+use Rattle.std.proofs.Common.{◌≡◌, ◌+◌, ℕ, List, Option, Some, length, slice_get, subst, arith, Err}
+use Rattle.std.proofs.Common.{IfOk, Ok, Result}
+use Rattle.std.specs.declared.{vec.Vec.Vec, alloc.Global.Global}
 use Rattle.aeth_base.specs.declared.memory.NoMemory.{NoMemory}
 use Rattle.aeth_chip.specs.Distances.{AreLevelRows, AreRows}
 use Rattle.aeth_chip.specs.Levels.{AreLevels, AreOrigins, HasPlaces, IsOrigin}
 use Rattle.aeth_chip.specs.declared.node.Link.{Link}
-use Rattle.aeth_chip.proofs.DistanceLemmas.{rows_least}
-use Rattle.aeth_chip.proofs.OriginLemmas.{origin_below}
+use Rattle.aeth_chip.proofs.{DistanceLemmas.rows_least, OriginLemmas.origin_below}
 use Rattle.aeth_chip.proofs.distances.rows_of.Goals as goal
 
 -- There is a list for each place.

@@ -1,8 +1,7 @@
 use Rattle.std.proofs.Common.{◌≡◌, ◌∙◌, ℕ, List, Some, ap, get_or, slice_get, sym}
 use Rattle.std.proofs.lemmas.Option.{get_or_from_slice_get}
 use Rattle.aeth_base.specs.declared.ids.LinkId.{LinkId}
-use Rattle.aeth_chip.specs.declared.lists.NiLink.{NiLink}
-use Rattle.aeth_chip.specs.declared.lists.NiLink.TheVariants.{One}
+use Rattle.aeth_chip.specs.declared.lists.NiLink.{NiLink, TheVariants.One}
 use Rattle.aeth_chip.proofs.index.ends_at.Goals as goal
 
 -- What was read is the one link that stands there.

@@ -1,7 +1,6 @@
 use Rattle.aeth_chip.specs.Index.{IsEnds}
 use Rattle.aeth_chip.specs.declared.node.End.TheVariants.{From, To}
-use Rattle.aeth_chip.proofs.IndexLemmas.{number_kept, one_link}
-use Rattle.aeth_chip.proofs.Pushes.{table-push}
+use Rattle.aeth_chip.proofs.{IndexLemmas.number_kept, IndexLemmas.one_link, Pushes.table-push}
 use Rattle.aeth_chip.proofs.index.ends_of.Goals as goal
 
 -- A network interface has one link each way.

@@ -1,11 +1,8 @@
-use Rattle.std.proofs.Common.{◌≡◌, ◌∙◌, ℕ, Some, ap, arith, get_or, length, refl, slice_get, subst}
-use Rattle.std.proofs.lemmas.List.{take_all}
-use Rattle.std.proofs.Math.Facts.{Fits-of_lt}
-use Rattle.std.proofs.lemmas.Option.{slice_get-get_or}
-use Rattle.aeth_chip.specs.Index.{HasEntries, IsFurther}
-use Rattle.aeth_chip.specs.Wires.{wires_of}
-use Rattle.aeth_chip.specs.declared.node.Link.{Link}
-use Rattle.aeth_chip.specs.declared.node.Node.TheVariants.{Router}
+use Rattle.std.proofs.{Common.◌≡◌, Common.◌∙◌, Common.ℕ, Common.Some, Common.ap, Common.arith}
+use Rattle.std.proofs.{Common.get_or, Common.length, Common.refl, Common.slice_get, Common.subst}
+use Rattle.std.proofs.{Common.take_all, Math.Facts.Fits-of_lt, lemmas.Option.slice_get-get_or}
+use Rattle.aeth_chip.specs.{Index.HasEntries, Index.IsFurther, Wires.wires_of}
+use Rattle.aeth_chip.specs.{declared.node.Link.Link, declared.node.Node.TheVariants.Router}
 use Rattle.aeth_chip.proofs.Pushes.{table-push}
 use Rattle.aeth_chip.proofs.SumLemmas.{further-fits, sums-more, sums-none, wires-fit}
 use Rattle.aeth_chip.proofs.index.further_of.Goals as goal

@@ -1,5 +1,4 @@
-use Rattle.aeth_chip.specs.Index.{IsFurther, HasEntries}
-use Rattle.aeth_chip.proofs.SumLemmas.{AreSums}
+use Rattle.aeth_chip.{specs.Index.IsFurther, specs.Index.HasEntries, proofs.SumLemmas.AreSums}
 use Rattle.aeth_chip.proofs.index.further_of.Given as goal
 
 -- The links so far.

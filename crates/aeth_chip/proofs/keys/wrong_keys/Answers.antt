@@ -3,10 +3,8 @@ use Rattle.toml.specs.View.{table_view}
 use Rattle.aeth_base.specs.declared.shown.Shown.{Shown}
 use Rattle.aeth_chip.specs.ChipFile.{link_fields, root_fields, wrong_keys}
 use Rattle.aeth_chip.specs.Told.{link_tables, version_of}
-use Rattle.aeth_document.specs.Arrays.{tables_in}
-use Rattle.aeth_document.specs.Keys.{fields_view, wrong_key}
-use Rattle.aeth_document.specs.Walks.{walked}
-use Rattle.aeth_document.specs.declared.walk.Walk.{Walk}
+use Rattle.aeth_document.specs.{Arrays.tables_in, Keys.fields_view, Keys.wrong_key, Walks.walked}
+use Rattle.aeth_document.specs.{declared.walk.Walk.Walk}
 use Rattle.aeth_document.proofs.WalkLemmas.{walked-append}
 use Rattle.aeth_chip.proofs.keys.wrong_keys.Goals as goal
 

@@ -1,5 +1,4 @@
-use Rattle.aeth_chip.specs.Nodes.{begins_at}
-use Rattle.aeth_chip.proofs.NodeLemmas.{numbers_from-once}
+use Rattle.aeth_chip.{specs.Nodes.begins_at, proofs.NodeLemmas.numbers_from-once}
 use Rattle.aeth_chip.proofs.laws.ports.Goals as goal
 
 pub returns : goal.returns

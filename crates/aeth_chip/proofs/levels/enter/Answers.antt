@@ -1,8 +1,8 @@
 use Rattle.std.proofs.Common.{◌<◌, ◌⊎◌, inl, inr, arith}
 use Rattle.aeth_chip.proofs.OriginLemmas.{enters-set}
-use Rattle.aeth_chip.proofs.levels.enter.Goals as goal
 use Rattle.aeth_chip.proofs.levels.enter.Goals.{else-from-routers-via-then-from-routers+else-to-routers}
 use Rattle.aeth_chip.proofs.levels.enter.Goals.{else-from-routers-via-else-from-routers}
+use Rattle.aeth_chip.proofs.levels.enter.Goals as goal
 
 -- The link was entered.
 pub returns : goal.returns

@@ -1,5 +1,4 @@
-use Rattle.std.proofs.Common.{length}
-use Rattle.std.proofs.Math.Nat.{lt_of_lt_of_le}
+use Rattle.std.proofs.{Common.length, Math.Nat.lt_of_lt_of_le}
 use Rattle.aeth_chip.proofs.OriginLemmas.{ends_below, origins-more}
 use Rattle.aeth_chip.proofs.levels.enter_all.Goals as goal
 

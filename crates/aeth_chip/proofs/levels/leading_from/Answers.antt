@@ -1,5 +1,4 @@
-use Rattle.std.proofs.Common.{◌+◌, ℕ, subst, inl, inr, arith}
-use Rattle.std.specs.Prelude.{slice_index}
+use Rattle.std.proofs.Common.{◌+◌, ℕ, subst, inl, inr, arith, slice_index}
 use Rattle.std.specs.Int.{trailing_zeros, w64}
 use Rattle.aeth_chip.specs.Levels.{IsOrigin}
 use Rattle.aeth_chip.proofs.MaskLemmas.{or_bit-cases, or_bit-left, or_bit-right, without-each}

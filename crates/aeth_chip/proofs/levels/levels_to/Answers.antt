@@ -1,11 +1,10 @@
-use Rattle.std.proofs.Common.{◌≡◌, ◌∙◌, List, Option, None, ℕ, length, ap, subst, sym}
-use Rattle.std.proofs.Common.{arith, rules}
-use Rattle.std.specs.Prelude.{replicate}
+use Rattle.std.proofs.Common.{◌≡◌, ◌∙◌, List, Option, None, ℕ, length, ap, subst, sym, arith, rules}
+use Rattle.std.proofs.Common.{replicate}
 use Rattle.std.proofs.lemmas.List.{length-replicate}
 use Rattle.aeth_base.proofs.Lists.{written_back}
 use Rattle.aeth_chip.specs.Levels.{AreLevels, IsOrigin}
-use Rattle.aeth_chip.proofs.levels.levels_to.Goals as goal
 use Rattle.aeth_chip.proofs.levels.levels_to.Goals.{In_ok-levels}
+use Rattle.aeth_chip.proofs.levels.levels_to.Goals as goal
 
 -- No place has a level yet.
 none_yet : (c : goal.In_ok-levels) → c.in_ok-levels.levels.items

@@ -1,9 +1,7 @@
-use Rattle.std.proofs.Common.{◌≡◌, ◌∙◌, ℕ, ap, length, rules, subst, sym}
-use Rattle.std.specs.Prelude.{replicate}
+use Rattle.std.proofs.Common.{◌≡◌, ◌∙◌, ℕ, ap, length, rules, subst, sym, replicate}
 use Rattle.std.proofs.lemmas.List.{length-replicate}
-use Rattle.aeth_chip.specs.Levels.{HasPlaces}
+use Rattle.aeth_chip.{specs.Levels.HasPlaces, proofs.levels.origins_of.Goals.In_ok-origins}
 use Rattle.aeth_chip.proofs.levels.origins_of.Goals as goal
-use Rattle.aeth_chip.proofs.levels.origins_of.Goals.{In_ok-origins}
 
 -- No place has an origin yet.
 none_yet : (c : In_ok-origins) → c.in_ok-origins.origins.items ≡ replicate c.args.places 0

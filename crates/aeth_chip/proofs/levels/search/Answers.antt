@@ -4,7 +4,8 @@ use Rattle.std.proofs.lemmas.Nat.{and_le_l, and_le_r}
 use Rattle.aeth_chip.specs.Levels.{IsOrigin}
 use Rattle.aeth_chip.proofs.LevelLemmas.{Found, found-all, found-more, found-start, replicate-at}
 use Rattle.aeth_chip.proofs.MaskLemmas.{all-has, and_bit-left, one_place-has, one_place-only}
-use Rattle.aeth_chip.proofs.RoundLemmas.{AreUnseen, round-of, round-smaller, rounds-few, unseen-more}
+use Rattle.aeth_chip.proofs.RoundLemmas.{AreUnseen, round-of, round-smaller, rounds-few}
+use Rattle.aeth_chip.proofs.RoundLemmas.{unseen-more}
 use Rattle.aeth_chip.proofs.levels.search.Goals as goal
 
 -- No place has a level, and the goal is to go on from.

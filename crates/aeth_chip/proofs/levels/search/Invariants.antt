@@ -1,8 +1,6 @@
 use Rattle.std.proofs.Common.{◌+◌, ◌<◌, ◌^◌, length, min}
 use Rattle.aeth_chip.specs.Levels.{IsOrigin}
-use Rattle.aeth_chip.proofs.LevelLemmas.{Found}
-use Rattle.aeth_chip.proofs.RoundLemmas.{AreUnseen}
-use Rattle.aeth_chip.proofs.SpreadLemmas.{count_none}
+use Rattle.aeth_chip.proofs.{LevelLemmas.Found, RoundLemmas.AreUnseen, SpreadLemmas.count_none}
 use Rattle.aeth_chip.proofs.levels.search.Given as goal
 
 -- What is found after so many rounds, and the places that have no level.

@@ -1,7 +1,6 @@
 use Rattle.std.proofs.Common.{◌∙◌, ◌∷◌, [], append_assoc, map}
 use Rattle.toml.specs.View.{table_view}
-use Rattle.aeth_document.specs.Arrays.{tables_in}
-use Rattle.aeth_document.proofs.WalkLemmas.{walked-append}
+use Rattle.aeth_document.{specs.Arrays.tables_in, proofs.WalkLemmas.walked-append}
 use Rattle.aeth_chip.specs.ChipFile.{unknown_end}
 use Rattle.aeth_chip.proofs.links.links_of.Goals as goal
 

@@ -1,11 +1,8 @@
 use Rattle.std.proofs.Common.{◌≡◌, ◌++◌, false, map, pos}
 use Rattle.std.specs.List.{AllByRecursion}
-use Rattle.aeth_chip.specs.ChipFile.{unknown_end}
-use Rattle.aeth_chip.specs.NamedEnds.{AreNamed}
-use Rattle.aeth_chip.specs.Told.{HasDelay, delay_at, link_of}
-use Rattle.aeth_document.specs.Arrays.{tables_in}
-use Rattle.aeth_document.specs.Walks.{walked}
-use Rattle.aeth_document.specs.declared.walk.Walk.TheVariants.{At}
+use Rattle.aeth_chip.specs.{ChipFile.unknown_end, NamedEnds.AreNamed, Told.HasDelay, Told.delay_at}
+use Rattle.aeth_chip.specs.{Told.link_of}
+use Rattle.aeth_document.specs.{Arrays.tables_in, Walks.walked, declared.walk.Walk.TheVariants.At}
 use Rattle.aeth_chip.proofs.links.links_of.Given as goal
 
 abbrev pub invariant-loop-table : goal.invariant-loop-table

@@ -1,11 +1,9 @@
 use Rattle.std.proofs.Common.{◌≡◌, Some, get_or, slice_get}
 use Rattle.std.proofs.lemmas.Option.{slice_get-get_or}
 use Rattle.aeth_chip.specs.Index.{IsPort, as_router}
-use Rattle.aeth_chip.specs.declared.node.End.TheVariants.{From, To}
-use Rattle.aeth_chip.specs.declared.node.Link.{Link}
-use Rattle.aeth_chip.specs.declared.node.Node.TheVariants.{Router}
-use Rattle.aeth_chip.proofs.IndexLemmas.{listed-more, port_next}
-use Rattle.aeth_chip.proofs.Pushes.{table-push}
+use Rattle.aeth_chip.specs.declared.node.{End.TheVariants.From, End.TheVariants.To, Link.Link}
+use Rattle.aeth_chip.specs.declared.node.{Node.TheVariants.Router}
+use Rattle.aeth_chip.proofs.{IndexLemmas.listed-more, IndexLemmas.port_next, Pushes.table-push}
 use Rattle.aeth_chip.proofs.lists.enter_link.Goals as goal
 
 abbrev no_link : Link

@@ -1,8 +1,6 @@
-use Rattle.std.proofs.Common.{◌≡◌, ℕ, List, length, subst, arith}
-use Rattle.std.proofs.lemmas.List.{take_all}
+use Rattle.std.proofs.Common.{◌≡◌, ℕ, List, length, subst, arith, take_all}
 use Rattle.aeth_chip.specs.Index.{AreListed, HasEntries, IsPort, as_router}
-use Rattle.aeth_chip.specs.declared.node.End.TheVariants.{From, To}
-use Rattle.aeth_chip.specs.declared.node.Link.{Link}
+use Rattle.aeth_chip.specs.declared.node.{End.TheVariants.From, End.TheVariants.To, Link.Link}
 use Rattle.aeth_chip.proofs.lists.enter_links.Goals as goal
 
 -- All links have been entered.

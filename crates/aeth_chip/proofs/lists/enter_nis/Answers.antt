@@ -1,8 +1,7 @@
 use Rattle.std.proofs.Common.{◌≡◌, Some, get_or, length, slice_get}
 use Rattle.std.proofs.lemmas.Option.{slice_get-get_or}
-use Rattle.aeth_chip.specs.declared.node.End.TheVariants.{From, To}
-use Rattle.aeth_chip.specs.declared.node.Link.{Link}
-use Rattle.aeth_chip.specs.declared.node.Node.TheVariants.{Router}
+use Rattle.aeth_chip.specs.declared.node.{End.TheVariants.From, End.TheVariants.To, Link.Link}
+use Rattle.aeth_chip.specs.declared.node.{Node.TheVariants.Router}
 use Rattle.aeth_chip.proofs.IndexLemmas.{ni_links-more}
 use Rattle.aeth_chip.proofs.lists.enter_nis.Goals as goal
 

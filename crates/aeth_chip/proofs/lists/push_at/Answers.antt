@@ -1,9 +1,7 @@
-use Rattle.std.proofs.Common.{◌≡◌, ◌∙◌, ◌++◌, ◌∷◌, List, [], ap, length, sym, arith}
-use Rattle.std.proofs.lemmas.List.{length-set}
+use Rattle.std.proofs.Common.{◌≡◌, ◌∙◌, ◌++◌, ◌∷◌, List, [], ap, length, sym, arith, length-set}
 use Rattle.aeth_base.specs.declared.ids.LinkId.{LinkId}
 use Rattle.aeth_base.proofs.Lists.{slice_get-slice_set_other, slice_get-slice_set_same}
-use Rattle.aeth_chip.specs.Index.{list_at, list_in}
-use Rattle.aeth_chip.proofs.ReadLemmas.{read_at}
+use Rattle.aeth_chip.{specs.Index.list_at, specs.Index.list_in, proofs.ReadLemmas.read_at}
 use Rattle.aeth_chip.proofs.lists.push_at.Goals as goal
 
 pub returns-clause-size : goal.returns-clause-size

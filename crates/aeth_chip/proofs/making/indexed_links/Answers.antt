@@ -1,16 +1,12 @@
 use Rattle.std.proofs.Common.{◌≡◌, ◌∙◌, ◌<◌, ◌≤◌, ℕ, List, Ok, length, subst, sym, ap}
 use Rattle.toml.specs.View.{table_view}
 use Rattle.aeth_base.specs.declared.ids.NiId.{NiId}
-use Rattle.aeth_chip.specs.Chip.{IsChip, IsSingle}
-use Rattle.aeth_chip.specs.Index.{AreLinkLists, IsIndex}
-use Rattle.aeth_chip.specs.Limits.{max_links}
-use Rattle.aeth_chip.specs.Told.{nis_of, told_chip, told_links}
-use Rattle.aeth_chip.specs.Wires.{HaveDelays}
-use Rattle.aeth_chip.specs.declared.node.Link.{Link}
-use Rattle.aeth_chip.proofs.FileLemmas.{judged-told, told-IsChip}
-use Rattle.aeth_chip.proofs.WireLemmas.{have_delays}
+use Rattle.aeth_chip.specs.{Chip.IsChip, Chip.IsSingle, Index.AreLinkLists, Index.IsIndex}
+use Rattle.aeth_chip.specs.{Limits.max_links, Told.nis_of, Told.told_chip, Told.told_links}
+use Rattle.aeth_chip.specs.{Wires.HaveDelays, declared.node.Link.Link}
+use Rattle.aeth_chip.proofs.{FileLemmas.judged-told, FileLemmas.told-IsChip, WireLemmas.have_delays}
+use Rattle.aeth_chip.proofs.{making.indexed_links.Goals.In_ok-listed}
 use Rattle.aeth_chip.proofs.making.indexed_links.Goals as goal
-use Rattle.aeth_chip.proofs.making.indexed_links.Goals.{In_ok-listed}
 
 -- The links are those of the chip that the file tells.
 is_chip : (c : goal.In_ok-listed) → IsChip (told_chip (table_view c.args.root.now))

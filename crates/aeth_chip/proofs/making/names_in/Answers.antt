@@ -1,8 +1,7 @@
 use Rattle.std.proofs.Common.{◌∙◌}
 use Rattle.aeth_document.proofs.WalkLemmas.{filter_map-name_of}
-use Rattle.aeth_chip.proofs.RangeLemmas.{in_range}
+use Rattle.aeth_chip.proofs.{RangeLemmas.in_range, making.names_in.Goals.In_ok-nis}
 use Rattle.aeth_chip.proofs.making.names_in.Goals as goal
-use Rattle.aeth_chip.proofs.making.names_in.Goals.{In_ok-nis}
 
 -- The routers' names are their texts.
 pub returns-clause-routers : goal.returns-clause-routers

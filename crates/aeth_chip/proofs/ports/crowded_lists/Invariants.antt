@@ -1,5 +1,4 @@
-use Rattle.std.proofs.Common.{◌≡◌, ◌-◌, map}
-use Rattle.std.specs.List.{range_with_len}
+use Rattle.std.{proofs.Common.◌≡◌, proofs.Common.◌-◌, proofs.Common.map, specs.List.range_with_len}
 use Rattle.aeth_chip.specs.Index.{crowded_in}
 use Rattle.aeth_document.specs.Walks.{walked}
 use Rattle.aeth_chip.proofs.ports.crowded_lists.Given as goal

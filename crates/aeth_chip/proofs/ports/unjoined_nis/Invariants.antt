@@ -1,7 +1,6 @@
 use Rattle.std.proofs.Common.{◌≡◌, ◌+◌, length}
 use Rattle.aeth_chip.specs.ChipFile.{not_single}
-use Rattle.aeth_document.specs.Arrays.{texts_in}
-use Rattle.aeth_document.specs.Walks.{walked}
+use Rattle.aeth_document.specs.{Arrays.texts_in, Walks.walked}
 use Rattle.aeth_chip.proofs.ports.unjoined_nis.Given as goal
 
 abbrev pub invariant-loop-name : goal.invariant-loop-name

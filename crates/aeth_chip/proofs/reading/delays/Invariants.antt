@@ -2,8 +2,7 @@ use Rattle.std.proofs.Common.{◌≡◌, map}
 use Rattle.toml.specs.View.{table_view}
 use Rattle.aeth_base.specs.Limits.{max_link_delay}
 use Rattle.aeth_chip.specs.Told.{delay_at, link_tables}
-use Rattle.aeth_document.specs.Arrays.{tables_in}
-use Rattle.aeth_document.specs.Walks.{outside, walked}
+use Rattle.aeth_document.specs.{Arrays.tables_in, Walks.outside, Walks.walked}
 use Rattle.aeth_chip.proofs.reading.delays.Given as goal
 
 abbrev pub invariant-loop-link : goal.invariant-loop-link

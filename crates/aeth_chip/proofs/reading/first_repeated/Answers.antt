@@ -2,11 +2,10 @@ use Rattle.std.proofs.Common.{◌≡◌, ◌∙◌, ◌++◌, List, ℕ, [], Non
 use Rattle.toml.specs.View.{table_view}
 use Rattle.aeth_chip.specs.Told.{nis_of, routers_of}
 use Rattle.aeth_document.specs.Walks.{found_by, repeats, walked}
-use Rattle.aeth_document.specs.declared.walk.Walk.{Walk}
+use Rattle.aeth_document.specs.declared.walk.Walk.{Walk, TheVariants.At, TheVariants.Stopped}
 use Rattle.aeth_document.proofs.WalkLemmas.{found_by-walked, repeats-append, walked-append}
 use Rattle.aeth_document.proofs.WalkLemmas.{walked-done}
 use Rattle.aeth_chip.proofs.reading.first_repeated.Goals as goal
-use Rattle.aeth_document.specs.declared.walk.Walk.TheVariants.{At, Stopped}
 
 -- A walk over the texts of two lists: where the first has a repeat, the second doesn't matter, and
 -- else the texts of the first are the others of the second.

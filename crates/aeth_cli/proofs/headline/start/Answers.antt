@@ -1,5 +1,4 @@
-use Rattle.aeth_cli.specs.Machines.{network_outcome}
-use Rattle.aeth_cli.proofs.HeadlineLemmas.{headline}
+use Rattle.aeth_cli.{specs.Machines.network_outcome, proofs.HeadlineLemmas.headline}
 use Rattle.aeth_cli.proofs.headline.start.Goals as goal
 
 -- The promise of the run.

@@ -1,5 +1,4 @@
-use Rattle.std.proofs.Common.{arith, filter, subst, sym}
-use Rattle.std.specs.Prelude.{nat_lt}
+use Rattle.std.proofs.Common.{arith, filter, subst, sym, nat_lt}
 use Rattle.std.proofs.lemmas.Option.{same_Some}
 use Rattle.aeth_accepted.specs.Inputs.{run_of}
 use Rattle.aeth_answers.specs.Task.{ends}

@@ -1,6 +1,5 @@
 use Rattle.aeth_accepted.specs.Inputs.{run_of}
-use Rattle.aeth_running.proofs.RouterTables.{headers-route}
-use Rattle.aeth_running.specs.Routing.{ByHeaders}
+use Rattle.aeth_running.{proofs.RouterTables.headers-route, specs.Routing.ByHeaders}
 use Rattle.aeth_table_network.specs.Tables.{tables_of}
 use Rattle.aeth_cli.proofs.KeptLemmas.{goes-through}
 use Rattle.aeth_cli.proofs.laws.runs_hold.Goals as goal

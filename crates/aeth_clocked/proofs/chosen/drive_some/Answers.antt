@@ -1,8 +1,6 @@
-use Rattle.std.proofs.Common.{arith, get_or}
-use Rattle.std.proofs.lemmas.Option.{slice_get-get_or}
-use Rattle.aeth_clocked.proofs.RestingTurns.{Changed-rest, Drives-rest}
-use Rattle.aeth_clocked.proofs.Turns.{Changed-next, Changed-turn}
-use Rattle.aeth_clocked.proofs.DrivenTurns.{Drives-turn}
+use Rattle.std.proofs.{Common.arith, Common.get_or, lemmas.Option.slice_get-get_or}
+use Rattle.aeth_clocked.proofs.{RestingTurns.Changed-rest, RestingTurns.Drives-rest}
+use Rattle.aeth_clocked.proofs.{Turns.Changed-next, Turns.Changed-turn, DrivenTurns.Drives-turn}
 use Rattle.aeth_clocked.proofs.chosen.drive_some.Goals as goal
 
 -- One component drives.

@@ -1,7 +1,5 @@
-use Rattle.std.proofs.Common.{arith, get_or}
-use Rattle.std.proofs.lemmas.Option.{slice_get-get_or}
-use Rattle.aeth_clocked.proofs.RestingTurns.{Changed-rest}
-use Rattle.aeth_clocked.proofs.Turns.{Changed-turn}
+use Rattle.std.proofs.{Common.arith, Common.get_or, lemmas.Option.slice_get-get_or}
+use Rattle.aeth_clocked.proofs.{RestingTurns.Changed-rest, Turns.Changed-turn}
 use Rattle.aeth_clocked.proofs.chosen.latch_some.Goals as goal
 
 -- One component latches.

@@ -1,7 +1,6 @@
 use Rattle.std.proofs.Common.{get_or, arith}
-use Rattle.aeth_clocked.proofs.OrderLemmas.{AreChosen-order}
-use Rattle.aeth_clocked.proofs.Turns.{Changed-next, Changed-turn, Changed-all}
-use Rattle.aeth_clocked.proofs.DrivenTurns.{Drives-turn, Drives-all}
+use Rattle.aeth_clocked.proofs.{OrderLemmas.AreChosen-order, Turns.Changed-next, Turns.Changed-turn}
+use Rattle.aeth_clocked.proofs.{Turns.Changed-all, DrivenTurns.Drives-turn, DrivenTurns.Drives-all}
 use Rattle.aeth_clocked.proofs.cycle.drive_all.Goals as goal
 
 -- One component drives.

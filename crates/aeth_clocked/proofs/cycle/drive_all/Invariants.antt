@@ -1,8 +1,6 @@
 use Rattle.std.proofs.Common.{take}
-use Rattle.aeth_clocked.specs.Wires.{Drives}
-use Rattle.aeth_clocked.specs.Driven.{driven}
-use Rattle.aeth_clocked.proofs.Turns.{Changed}
-use Rattle.aeth_clocked.proofs.DrivenTurns.{is_output_among}
+use Rattle.aeth_clocked.specs.{Wires.Drives, Driven.driven}
+use Rattle.aeth_clocked.proofs.{Turns.Changed, DrivenTurns.is_output_among}
 use Rattle.aeth_clocked.proofs.cycle.drive_all.Given as goal
 
 -- The components whose turn has come have changed, and their outputs have their flits.

@@ -1,6 +1,5 @@
 use Rattle.std.proofs.Common.{arith}
-use Rattle.aeth_clocked.proofs.OrderLemmas.{AreChosen-order}
-use Rattle.aeth_clocked.proofs.Turns.{Changed-turn, Changed-all}
+use Rattle.aeth_clocked.proofs.{OrderLemmas.AreChosen-order, Turns.Changed-turn, Turns.Changed-all}
 use Rattle.aeth_clocked.proofs.cycle.latch_all.Goals as goal
 
 -- One component latches.

@@ -1,21 +1,18 @@
 use Rattle.std.proofs.Common.{◌≡◌, ◌∙◌, List, ap, length, map, subst, sym}
 use Rattle.aeth_router.specs.declared.part.Part.{Part}
-use Rattle.aeth_components.proofs.components.run.Given as given
-use Rattle.aeth_components.proofs.components.run.Goals as goal
 use Rattle.aeth_components.proofs.components.run.Goals.{After-refill}
 use Rattle.aeth_components.proofs.ReadyLemmas.{AreReady-noted}
 use Rattle.aeth_components.proofs.RoomLemmas.{IsFull-driven, IsFull-pulled, IsFull-switched}
 use Rattle.aeth_components.proofs.SeenLemmas.{moment_with}
-use Rattle.aeth_components.proofs.SeenPhases.{frames-driven, ready-seen, ways-driven}
-use Rattle.aeth_components.proofs.SeenPhases.{ways-pulled, ways-refilled, ways-switched}
+use Rattle.aeth_components.proofs.SeenPhases.{frames-driven, ready-seen, ways-driven, ways-pulled}
+use Rattle.aeth_components.proofs.SeenPhases.{ways-refilled, ways-switched}
 use Rattle.aeth_components.proofs.WaitingLemmas.{AreHanding-taken, AreHanding-woken}
-use Rattle.aeth_components.specs.Components.{ready_of, wires_driven}
-use Rattle.aeth_components.specs.Frames.{frame_of}
-use Rattle.aeth_components.specs.Handing.{AreHanding, HasEvent}
-use Rattle.aeth_components.specs.Passing.{way_of}
-use Rattle.aeth_components.specs.Phases.{Moment, in_turn, pulled, refilled}
-use Rattle.aeth_components.specs.Seen.{interfaces_driven, seen}
-use Rattle.aeth_components.specs.Sending.{IsSending}
+use Rattle.aeth_components.specs.{Components.ready_of, Components.wires_driven, Frames.frame_of}
+use Rattle.aeth_components.specs.{Handing.AreHanding, Handing.HasEvent, Passing.way_of}
+use Rattle.aeth_components.specs.{Phases.Moment, Phases.in_turn, Phases.pulled, Phases.refilled}
+use Rattle.aeth_components.specs.{Seen.interfaces_driven, Seen.seen, Sending.IsSending}
+use Rattle.aeth_components.proofs.components.run.Given as given
+use Rattle.aeth_components.proofs.components.run.Goals as goal
 
 -- Who waits at an interface that an event is for may hand words on, and all other full queues stay full.
 pub refill-requires-clause-handing : goal.refill-requires-clause-handing

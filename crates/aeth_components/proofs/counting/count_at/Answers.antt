@@ -1,9 +1,7 @@
-use Rattle.std.proofs.Common.{◌∙◌, ap, set}
-use Rattle.std.proofs.lemmas.Option.{get_or_from_slice_get}
-use Rattle.aeth_components.proofs.counting.count_at.Goals as goal
-use Rattle.aeth_components.proofs.LaneLemmas.{set-with_lane}
-use Rattle.aeth_components.proofs.MarkLemmas.{AreMarked-marked}
+use Rattle.std.proofs.{Common.◌∙◌, Common.ap, Common.set, lemmas.Option.get_or_from_slice_get}
+use Rattle.aeth_components.proofs.{LaneLemmas.set-with_lane, MarkLemmas.AreMarked-marked}
 use Rattle.aeth_components.specs.Counting.{counted, noted}
+use Rattle.aeth_components.proofs.counting.count_at.Goals as goal
 
 -- The channel is counted.
 pub returns-then-count_one-clause-lanes : goal.returns-then-count_one-clause-lanes

@@ -1,13 +1,11 @@
 use Rattle.std.proofs.Common.{ℕ, ◌≡◌, ◌≢◌, ◌==◌, ◌∙◌, refl, sym, true, Some, slice_get, length}
-use Rattle.std.proofs.lemmas.Bool.{eq-eqb}
+use Rattle.std.proofs.Common.{eq-eqb}
 use Rattle.std.proofs.lemmas.Option.{slice_get_read}
-use Rattle.aeth_components.specs.declared.lane.Lane.{Lane}
-use Rattle.aeth_components.specs.Channels.{OfLane}
-use Rattle.aeth_components.specs.Counting.{brings}
+use Rattle.aeth_components.specs.{declared.lane.Lane.Lane, Channels.OfLane, Counting.brings}
 use Rattle.aeth_components.proofs.AmongLemmas.{brings-other, counts-one, counts-still, notes-one}
 use Rattle.aeth_components.proofs.AmongLemmas.{notes-still}
-use Rattle.aeth_components.proofs.counting.count_received.Goals as goal
 use Rattle.aeth_components.proofs.counting.count_received.Goals.{In-Some, In_default}
+use Rattle.aeth_components.proofs.counting.count_received.Goals as goal
 
 -- No words came to another channel at the interface.
 others : (c : goal.In-Some) → (k : ℕ) (lane : Lane) → k ≢ c.in-Some.channel

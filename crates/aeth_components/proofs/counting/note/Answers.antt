@@ -1,6 +1,6 @@
 use Rattle.std.proofs.Common.{ℕ, List, ◌≡◌, ◌+◌, ◌∙◌, ap, arith, set, suc}
-use Rattle.aeth_components.proofs.counting.note.Goals as goal
 use Rattle.aeth_components.specs.Counting.{written_over}
+use Rattle.aeth_components.proofs.counting.note.Goals as goal
 
 -- One place more is written.
 pub loop-place-preserved : goal.loop-place-preserved

@@ -1,6 +1,6 @@
 use Rattle.std.proofs.Common.{◌≡◌}
-use Rattle.aeth_components.proofs.counting.note.Given as goal
 use Rattle.aeth_components.specs.Counting.{written_over}
+use Rattle.aeth_components.proofs.counting.note.Given as goal
 
 -- The places so far are written.
 abbrev pub invariant-loop-place : goal.invariant-loop-place

@@ -1,17 +1,15 @@
 use Rattle.std.proofs.Common.{◌≡◌, ◌≤◌, ◌+◌, ◌∙◌, ap, arith, length}
 use Rattle.std.proofs.lemmas.List.{length-map}
 use Rattle.aeth_router.specs.Onward.{carried}
-use Rattle.aeth_components.proofs.driving.drive.Given as given
-use Rattle.aeth_components.proofs.driving.drive.Goals as goal
 use Rattle.aeth_components.proofs.driving.drive.Goals.{After-settle, else-turns, then-turns}
 use Rattle.aeth_components.proofs.DriveLemmas.{sending-seen, wires-driven}
 use Rattle.aeth_components.proofs.LookUpLemmas.{HasCome, passed-without-tables}
 use Rattle.aeth_components.proofs.SeenLemmas.{frames-seen}
 use Rattle.aeth_components.proofs.SendingLemmas.{sending-few}
-use Rattle.aeth_components.specs.Passing.{passed_from}
-use Rattle.aeth_components.specs.Seen.{all_seen}
-use Rattle.aeth_components.specs.Turns.{flits_on}
-use Rattle.aeth_components.specs.declared.turns.Turns.{Turns}
+use Rattle.aeth_components.specs.{Passing.passed_from, Seen.all_seen, Turns.flits_on}
+use Rattle.aeth_components.specs.{declared.turns.Turns.Turns}
+use Rattle.aeth_components.proofs.driving.drive.Given as given
+use Rattle.aeth_components.proofs.driving.drive.Goals as goal
 
 -- There is a place for each wire.
 sized : (g : given.Over) (c : goal.After-settle g)

@@ -1,17 +1,15 @@
-use Rattle.std.proofs.Common.{◌≡◌, ◌<◌, ◌+◌, ◌∙◌, arith, get_or, length, slice_get}
-use Rattle.std.proofs.Common.{Some, refl, sym}
-use Rattle.std.proofs.lemmas.List.{length-map}
-use Rattle.std.proofs.lemmas.Option.{slice_get-get_or, slice_get_read}
+use Rattle.std.proofs.Common.{◌≡◌, ◌<◌, ◌+◌, ◌∙◌, arith, get_or, length, slice_get, Some, refl, sym}
+use Rattle.std.proofs.lemmas.{List.length-map, Option.slice_get-get_or, Option.slice_get_read}
 use Rattle.aeth_clocked.proofs.UsedLemmas.{NextUsed, used-end, used-next}
-use Rattle.aeth_components.proofs.LookUpLemmas.{HasCome, IsAlike-part, looked-up-first, looked-up-kept}
-use Rattle.aeth_components.proofs.LookUpLemmas.{looked-up-last, looked-up-passed, looked-up-until}
-use Rattle.aeth_components.proofs.LookUpLemmas.{looked_up_from}
+use Rattle.aeth_components.proofs.LookUpLemmas.{HasCome, IsAlike-part, looked-up-first}
+use Rattle.aeth_components.proofs.LookUpLemmas.{looked-up-kept, looked-up-last, looked-up-passed}
+use Rattle.aeth_components.proofs.LookUpLemmas.{looked-up-until, looked_up_from}
 use Rattle.aeth_components.proofs.FlitLemmas.{flits_on-more, flits_on-take}
 use Rattle.aeth_components.proofs.OwnLemmas.{output-below}
-use Rattle.aeth_components.proofs.driving.look_up.Given as given
-use Rattle.aeth_components.proofs.driving.look_up.Goals as goal
 use Rattle.aeth_components.proofs.driving.look_up.Goals.{In-Some}
 use Rattle.aeth_components.specs.Frames.{frame_of}
+use Rattle.aeth_components.proofs.driving.look_up.Given as given
+use Rattle.aeth_components.proofs.driving.look_up.Goals as goal
 
 pub loop-wire-init : goal.loop-wire-init
 loop-wire-init g c = record {

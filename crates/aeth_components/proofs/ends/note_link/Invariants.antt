@@ -1,5 +1,4 @@
-use Rattle.std.specs.Prelude.{IfSome}
-use Rattle.std.proofs.Common.{slice_get}
+use Rattle.std.proofs.Common.{IfSome, slice_get}
 use Rattle.aeth_components.specs.Ends.{NotedTo}
 use Rattle.aeth_components.proofs.ends.note_link.Given as goal
 

@@ -1,6 +1,5 @@
 use Rattle.std.proofs.Common.{◌≡◌, ◌+◌, ◌∙◌, ℕ, List, ap, arith, inl, inr, length, Some, slice_get}
-use Rattle.std.proofs.Common.{get_or, sym}
-use Rattle.std.proofs.lemmas.List.{length-append}
+use Rattle.std.proofs.Common.{get_or, sym, length-append}
 use Rattle.std.proofs.lemmas.Option.{slice_get-get_or, slice_get_within}
 use Rattle.aeth_base.proofs.Lists.{item-at, slice_get-push}
 use Rattle.aeth_chip.proofs.WireLemmas.{have_delays, wires_of-split}

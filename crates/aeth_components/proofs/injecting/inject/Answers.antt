@@ -1,21 +1,23 @@
-use Rattle.std.proofs.Common.{◌≡◌, ◌<◌, ◌+◌, ◌%◌, ◌∙◌, ap, arith, get_or, length, refl, Some, slice_get, sym}
+use Rattle.std.proofs.Common.{◌≡◌, ◌<◌, ◌+◌, ◌%◌, ◌∙◌, ap, arith, get_or, length, refl, Some}
+use Rattle.std.proofs.Common.{slice_get, sym}
 use Rattle.std.proofs.lemmas.Option.{same_Some, slice_get-get_or}
-use Rattle.aeth_router.specs.Part.{after_of}
-use Rattle.aeth_router.specs.declared.part.Part.{Part}
-use Rattle.aeth_components.specs.Injecting.{AreInjecting}
-use Rattle.aeth_components.specs.Turns.{sends_own}
+use Rattle.aeth_router.specs.{Part.after_of, declared.part.Part.Part}
+use Rattle.aeth_components.specs.{Injecting.AreInjecting, Turns.sends_own}
 use Rattle.aeth_components.proofs.AskedLemmas.{slot-own, slot-within}
 use Rattle.aeth_components.proofs.InjectLemmas.{InjectedTo, InjectedTo-first, InjectedTo-more}
 use Rattle.aeth_components.proofs.InjectLemmas.{InjectedTo-parts, InjectedTo-passed}
-use Rattle.aeth_components.proofs.InjectLemmas.{InjectedTo-until, InjectedTo-wires, InjectedTo-woken}
+use Rattle.aeth_components.proofs.InjectLemmas.{InjectedTo-until, InjectedTo-wires}
+use Rattle.aeth_components.proofs.InjectLemmas.{InjectedTo-woken}
 use Rattle.aeth_components.proofs.OwnLemmas.{output-below}
 use Rattle.aeth_components.proofs.WokenLemmas.{AreInjecting-driven, AreInjecting-rested}
+use Rattle.aeth_components.proofs.injecting.inject.Goals.{After-at-in-numbers}
+use Rattle.aeth_components.proofs.injecting.inject.Goals.{After-index-parts-number}
+use Rattle.aeth_components.proofs.injecting.inject.Goals.{After-index-parts-number-in-numbers}
+use Rattle.aeth_components.proofs.injecting.inject.Goals.{After-sends_in, else-not-sends_in}
+use Rattle.aeth_components.proofs.injecting.inject.Goals.{else-sends_in, then-not-sends_in}
+use Rattle.aeth_components.proofs.injecting.inject.Goals.{then-sends_in}
 use Rattle.aeth_components.proofs.injecting.inject.Given as given
 use Rattle.aeth_components.proofs.injecting.inject.Goals as goal
-use Rattle.aeth_components.proofs.injecting.inject.Goals.{After-at-in-numbers, After-index-parts-number}
-use Rattle.aeth_components.proofs.injecting.inject.Goals.{After-index-parts-number-in-numbers}
-use Rattle.aeth_components.proofs.injecting.inject.Goals.{After-sends_in, else-not-sends_in, else-sends_in}
-use Rattle.aeth_components.proofs.injecting.inject.Goals.{then-not-sends_in, then-sends_in}
 
 -- None has driven yet.
 pub numbers-init : goal.numbers-init

@@ -1,6 +1,5 @@
 use Rattle.std.proofs.Common.{◌≡◌, ◌≤◌, ◌-◌, length}
-use Rattle.aeth_components.specs.Injecting.{AreInjecting}
-use Rattle.aeth_components.proofs.InjectLemmas.{InjectedTo}
+use Rattle.aeth_components.{specs.Injecting.AreInjecting, proofs.InjectLemmas.InjectedTo}
 use Rattle.aeth_components.proofs.injecting.inject.Given as goal
 
 -- The components so far have driven what they send, and who waits there is woken.

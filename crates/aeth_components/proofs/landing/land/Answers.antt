@@ -1,13 +1,11 @@
-use Rattle.std.proofs.Common.{◌≡◌, ◌<◌, ◌+◌, ◌==◌, ◌++◌, ◌^◌, ◌∙◌, ℕ, [], ap, ap₂, arith}
-use Rattle.std.proofs.Common.{drop, fold, get_or, length, length-set, map, refl, set, slice_get, Some}
+use Rattle.std.proofs.Common.{◌≡◌, ◌<◌, ◌+◌, ◌==◌, ◌++◌, ◌^◌, ◌∙◌, ℕ, [], ap, ap₂, arith, drop}
+use Rattle.std.proofs.Common.{fold, get_or, length, length-set, map, refl, set, slice_get, Some}
 use Rattle.std.proofs.Common.{sym, take}
-use Rattle.std.proofs.lemmas.List.{length-map, length-replicate}
-use Rattle.std.proofs.lemmas.List.Elements.{All-map}
+use Rattle.std.proofs.lemmas.List.{length-map, length-replicate, Elements.All-map}
 use Rattle.std.proofs.lemmas.Option.{slice_get-get_or}
 use Rattle.aeth_base.proofs.Lists.{written_back}
 use Rattle.aeth_clocked.proofs.UsedLemmas.{NextUsed, used-end, used-next}
-use Rattle.aeth_clocked.specs.Wires.{flit_on, used_from}
-use Rattle.aeth_clocked.specs.declared.flit.Flit.{Flit}
+use Rattle.aeth_clocked.specs.{Wires.flit_on, Wires.used_from, declared.flit.Flit.Flit}
 use Rattle.aeth_router.specs.Onward.{Nothing}
 use Rattle.aeth_components.proofs.AmongLemmas.{IsLane-among}
 use Rattle.aeth_components.proofs.ComeLemmas.{came_to, counts-all, counts-none, flits_landed-none}
@@ -16,24 +14,23 @@ use Rattle.aeth_components.proofs.CountingLemmas.{flits_counted-until, flits_cou
 use Rattle.aeth_components.proofs.ForwardedLemmas.{ForwardedTo-kept, ForwardedTo-none}
 use Rattle.aeth_components.proofs.ForwardedLemmas.{ForwardedTo-passed, ForwardedTo-until}
 use Rattle.aeth_components.proofs.LandedLemmas.{Lands, counts-more, counts-past, flits_landed-more}
-use Rattle.aeth_components.proofs.LandedLemmas.{flits_landed-past, notes-more, notes-past, receiver-at}
+use Rattle.aeth_components.proofs.LandedLemmas.{flits_landed-past, notes-more, notes-past}
+use Rattle.aeth_components.proofs.LandedLemmas.{receiver-at, receiver-stays}
 use Rattle.aeth_components.proofs.InjectingLemmas.{HasPlaces-part}
-use Rattle.aeth_components.proofs.LandedLemmas.{receiver-stays}
 use Rattle.aeth_components.proofs.WokenLemmas.{AreInjecting-latched}
 use Rattle.aeth_components.proofs.OwnLemmas.{output-below}
 use Rattle.aeth_components.proofs.TakenLemmas.{OneMore-next, flit_on-all, flits_counted-next}
 use Rattle.aeth_components.proofs.TakenLemmas.{flits_on-all, flits_on-few, flits_on-next}
 use Rattle.aeth_components.proofs.WalkedLemmas.{length-notes_among}
+use Rattle.aeth_components.proofs.landing.land.Goals.{After-count_flit, In-None, In-Some}
+use Rattle.aeth_components.proofs.landing.land.Goals.{else-number-interfaces}
+use Rattle.aeth_components.proofs.landing.land.Goals.{then-number-interfaces}
+use Rattle.aeth_components.specs.{Channels.ChannelsState, Counting.counted_among}
+use Rattle.aeth_components.specs.{Counting.flits_counted, Counting.noted_among, Frames.frame_of}
+use Rattle.aeth_components.specs.{Lanes.IsLane, Seen.interfaces_latched}
+use Rattle.aeth_components.specs.{declared.counts.Counts.Counts}
 use Rattle.aeth_components.proofs.landing.land.Given as given
 use Rattle.aeth_components.proofs.landing.land.Goals as goal
-use Rattle.aeth_components.proofs.landing.land.Goals.{After-count_flit, In-None, In-Some}
-use Rattle.aeth_components.proofs.landing.land.Goals.{else-number-interfaces, then-number-interfaces}
-use Rattle.aeth_components.specs.Channels.{ChannelsState}
-use Rattle.aeth_components.specs.Counting.{counted_among, flits_counted, noted_among}
-use Rattle.aeth_components.specs.Frames.{frame_of}
-use Rattle.aeth_components.specs.Lanes.{IsLane}
-use Rattle.aeth_components.specs.Seen.{interfaces_latched}
-use Rattle.aeth_components.specs.declared.counts.Counts.{Counts}
 
 -- The next wire with a flit.
 next : (g : given.Over) (c : In-Some g) → NextUsed c.args.wires.now c.loop-wire.invariant.from

@@ -1,11 +1,10 @@
 use Rattle.std.proofs.Common.{◌≡◌, ◌≤◌, ◌<◌, ◌+◌, ℕ, fold, length, map, take}
 use Rattle.aeth_clocked.specs.Wires.{used_from}
 use Rattle.aeth_router.specs.Onward.{CameFrom, arrival_at}
-use Rattle.aeth_components.specs.Counting.{counted_among, flits_counted, noted_among}
-use Rattle.aeth_components.specs.Injecting.{AreInjecting}
-use Rattle.aeth_components.specs.Passing.{forwarded_from, way_of}
-use Rattle.aeth_components.specs.Seen.{flits_landed, interfaces_latched}
-use Rattle.aeth_components.specs.Turns.{flits_on}
+use Rattle.aeth_components.specs.{Counting.counted_among, Counting.flits_counted}
+use Rattle.aeth_components.specs.{Counting.noted_among, Injecting.AreInjecting}
+use Rattle.aeth_components.specs.{Passing.forwarded_from, Passing.way_of, Seen.flits_landed}
+use Rattle.aeth_components.specs.{Seen.interfaces_latched, Turns.flits_on}
 use Rattle.aeth_components.proofs.ComeLemmas.{came_to}
 use Rattle.aeth_components.proofs.landing.land.Given as goal
 

@@ -1,14 +1,13 @@
 use Rattle.std.proofs.Common.{ℕ, ◌+◌, arith, inr, length, refl, List}
 use Rattle.std.proofs.lemmas.Option.{slice_get_within}
 use Rattle.std.specs.List.{range_with_len}
-use Rattle.aeth_components.proofs.laws.turns_are_taken_alone.Goals as goal
 use Rattle.aeth_components.proofs.TurnLemmas.{frames-pulled, frames-refilled, pulled-closed}
 use Rattle.aeth_components.proofs.TurnLemmas.{pulled-open, refilled-closed, refilled-open}
 use Rattle.aeth_components.proofs.TurnsAlone.{Done-turns, Stays-turns, kept-turns}
-use Rattle.aeth_components.specs.Alone.{Acts}
-use Rattle.aeth_components.specs.Lanes.{is_open}
-use Rattle.aeth_components.specs.Phases.{asked_of, left_of, pulled, refilled}
-use Rattle.aeth_components.specs.Queues.{drawn, draws, filled, fits}
+use Rattle.aeth_components.specs.{Alone.Acts, Lanes.is_open, Phases.asked_of, Phases.left_of}
+use Rattle.aeth_components.specs.{Phases.pulled, Phases.refilled, Queues.drawn, Queues.draws}
+use Rattle.aeth_components.specs.{Queues.filled, Queues.fits}
+use Rattle.aeth_components.proofs.laws.turns_are_taken_alone.Goals as goal
 
 -- Refilling acts on the sender's queue.
 acts-refilled : (words : List ℕ) (cycle : ℕ)

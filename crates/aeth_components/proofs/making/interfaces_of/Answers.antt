@@ -1,7 +1,6 @@
-use Rattle.std.proofs.Common.{arith}
-use Rattle.std.proofs.lemmas.List.FromFn.{map-range_with_len_more}
-use Rattle.aeth_components.proofs.making.interfaces_of.Goals as goal
+use Rattle.std.proofs.{Common.arith, lemmas.List.FromFn.map-range_with_len_more}
 use Rattle.aeth_components.specs.Making.{made_interface}
+use Rattle.aeth_components.proofs.making.interfaces_of.Goals as goal
 
 -- One interface more.
 pub loop-number-preserved : goal.loop-number-preserved

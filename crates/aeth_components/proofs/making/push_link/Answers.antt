@@ -1,8 +1,8 @@
 use Rattle.std.proofs.Common.{arith, append_assoc, map, ◌∷◌, []}
-use Rattle.std.specs.List.{range_with_len}
 use Rattle.std.proofs.lemmas.List.FromFn.{map-range_with_len_more}
-use Rattle.aeth_components.proofs.making.push_link.Goals as goal
+use Rattle.std.specs.List.{range_with_len}
 use Rattle.aeth_components.specs.Making.{made_stage}
+use Rattle.aeth_components.proofs.making.push_link.Goals as goal
 
 -- One stage more.
 pub loop-place-preserved : goal.loop-place-preserved

@@ -1,7 +1,6 @@
-use Rattle.std.proofs.Common.{◌≡◌, ◌++◌, map}
-use Rattle.std.specs.List.{range_with_len}
-use Rattle.aeth_components.proofs.making.push_link.Given as goal
+use Rattle.std.{proofs.Common.◌≡◌, proofs.Common.◌++◌, proofs.Common.map, specs.List.range_with_len}
 use Rattle.aeth_components.specs.Making.{made_stage}
+use Rattle.aeth_components.proofs.making.push_link.Given as goal
 
 -- The stages so far.
 abbrev pub invariant-loop-place : goal.invariant-loop-place

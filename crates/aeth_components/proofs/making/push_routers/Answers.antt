@@ -1,8 +1,8 @@
 use Rattle.std.proofs.Common.{arith, append_assoc, map, ◌∷◌, []}
-use Rattle.std.specs.List.{range_with_len}
 use Rattle.std.proofs.lemmas.List.FromFn.{map-range_with_len_more}
-use Rattle.aeth_components.proofs.making.push_routers.Goals as goal
+use Rattle.std.specs.List.{range_with_len}
 use Rattle.aeth_components.specs.Making.{made_router}
+use Rattle.aeth_components.proofs.making.push_routers.Goals as goal
 
 -- One router more.
 pub loop-number-preserved : goal.loop-number-preserved

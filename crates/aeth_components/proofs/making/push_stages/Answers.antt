@@ -1,7 +1,7 @@
 use Rattle.std.proofs.Common.{append_assoc}
-use Rattle.aeth_components.proofs.making.push_stages.Goals as goal
 use Rattle.aeth_components.proofs.MadeParts.{made_stages-more}
 use Rattle.aeth_components.specs.Making.{link_stages, made_stages}
+use Rattle.aeth_components.proofs.making.push_stages.Goals as goal
 
 -- The stages of one link more.
 pub loop-number-preserved : goal.loop-number-preserved

@@ -1,6 +1,5 @@
 use Rattle.std.proofs.Common.{◌∙◌, ap, arith, get_or, set}
-use Rattle.std.proofs.lemmas.List.{get_or_default}
-use Rattle.std.proofs.lemmas.List.Edits.{map_over_more}
+use Rattle.std.proofs.lemmas.List.{get_or_default, Edits.map_over_more}
 use Rattle.aeth_components.specs.Entering.{entered}
 use Rattle.aeth_components.proofs.parts.enter_all.Goals as goal
 

@@ -1,6 +1,6 @@
 use Rattle.std.proofs.Common.{◌≡◌, ◌++◌, drop, map, take}
-use Rattle.aeth_components.proofs.parts.enter_all.Given as goal
 use Rattle.aeth_components.specs.Entering.{entered}
+use Rattle.aeth_components.proofs.parts.enter_all.Given as goal
 
 -- Rows have entered the components so far.
 abbrev pub invariant-loop-number : goal.invariant-loop-number

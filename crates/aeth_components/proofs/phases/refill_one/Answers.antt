@@ -1,20 +1,18 @@
-use Rattle.std.proofs.Common.{ℕ, ◌+◌, ◌-◌, ◌∙◌, List, Option, ap, ap₂, arith, drop, length-drop, set, sym}
+use Rattle.std.proofs.Common.{ℕ, ◌+◌, ◌-◌, ◌∙◌, List, Option, ap, ap₂, arith, drop, length-drop}
+use Rattle.std.proofs.Common.{set, sym, length-take}
 use Rattle.std.specs.Option.{option_map_or}
-use Rattle.std.proofs.lemmas.List.{length-take}
 use Rattle.aeth_base.proofs.Lists.{slice_get-slice_set_same}
 use Rattle.aeth_router.specs.declared.part.Part.{Part}
-use Rattle.aeth_components.proofs.phases.refill_one.Goals as goal
 use Rattle.aeth_components.proofs.phases.refill_one.Goals.{else-lane-via-then-lane+else-is_open}
 use Rattle.aeth_components.proofs.phases.refill_one.Goals.{else-lane-via-else-lane}
 use Rattle.aeth_components.proofs.InjectingLemmas.{HasPlaces-part}
 use Rattle.aeth_components.proofs.WokenLemmas.{AreInjecting-turned}
 use Rattle.aeth_components.proofs.PartLemmas.{map_or-read, set-with_part}
 use Rattle.aeth_components.proofs.TurnLemmas.{refilled-closed, refilled-none, refilled-open}
-use Rattle.aeth_components.specs.Changes.{on_interface, told_by}
-use Rattle.aeth_components.specs.Phases.{left_of}
-use Rattle.aeth_components.specs.Queues.{filled, fits}
-use Rattle.aeth_components.specs.Handing.{room_left}
+use Rattle.aeth_components.specs.{Changes.on_interface, Changes.told_by, Phases.left_of}
+use Rattle.aeth_components.specs.{Queues.filled, Queues.fits, Handing.room_left}
 use Rattle.aeth_ni.specs.Interface.{changed}
+use Rattle.aeth_components.proofs.phases.refill_one.Goals as goal
 
 -- The words are handed on, and counted.
 pub returns-then-is_open-clause-turn : goal.returns-then-is_open-clause-turn

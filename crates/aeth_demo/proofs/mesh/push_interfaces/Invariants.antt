@@ -1,7 +1,5 @@
 use Rattle.std.proofs.Common.{◌≡◌, ◌++◌}
-use Rattle.aeth_demo.specs.Mesh.{interface_links}
-use Rattle.aeth_demo.specs.Limits.{mesh_routers}
-use Rattle.aeth_demo.specs.Pieces.{texts_below}
+use Rattle.aeth_demo.specs.{Mesh.interface_links, Limits.mesh_routers, Pieces.texts_below}
 use Rattle.aeth_demo.proofs.Loops.{texts_from}
 use Rattle.aeth_demo.proofs.mesh.push_interfaces.Given as goal
 

@@ -1,6 +1,5 @@
 use Rattle.std.proofs.Common.{arith}
-use Rattle.aeth_demo.specs.Mesh.{router_links}
-use Rattle.aeth_demo.specs.Limits.{mesh_routers}
+use Rattle.aeth_demo.specs.{Mesh.router_links, Limits.mesh_routers}
 use Rattle.aeth_demo.proofs.Loops.{text-begin, text-end, text-more}
 use Rattle.aeth_demo.proofs.mesh.push_routers.Goals as goal
 

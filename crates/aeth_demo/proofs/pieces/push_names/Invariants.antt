@@ -1,6 +1,5 @@
 use Rattle.std.proofs.Common.{◌≡◌, ◌++◌}
-use Rattle.aeth_demo.specs.Pieces.{name_at, texts_below}
-use Rattle.aeth_demo.proofs.Loops.{texts_from}
+use Rattle.aeth_demo.{specs.Pieces.name_at, specs.Pieces.texts_below, proofs.Loops.texts_from}
 use Rattle.aeth_demo.proofs.pieces.push_names.Given as goal
 
 -- What is there and what is still to come is the whole.

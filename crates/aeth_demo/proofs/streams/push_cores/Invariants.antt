@@ -1,7 +1,5 @@
 use Rattle.std.proofs.Common.{◌≡◌, ◌++◌}
-use Rattle.aeth_demo.specs.Streams.{core_text}
-use Rattle.aeth_demo.specs.Limits.{mesh_routers}
-use Rattle.aeth_demo.specs.Pieces.{texts_below}
+use Rattle.aeth_demo.specs.{Streams.core_text, Limits.mesh_routers, Pieces.texts_below}
 use Rattle.aeth_demo.proofs.Loops.{texts_from}
 use Rattle.aeth_demo.proofs.streams.push_cores.Given as goal
 

@@ -1,6 +1,5 @@
 use Rattle.std.proofs.Common.{arith}
-use Rattle.aeth_demo.specs.Streams.{connection_text}
-use Rattle.aeth_demo.specs.Limits.{mesh_routers}
+use Rattle.aeth_demo.specs.{Streams.connection_text, Limits.mesh_routers}
 use Rattle.aeth_demo.proofs.Loops.{text-begin, text-end, text-more}
 use Rattle.aeth_demo.proofs.streams.push_round.Goals as goal
 

@@ -1,9 +1,8 @@
 use Rattle.std.proofs.Common.{◌≡◌, ◌∙◌, ◌+◌, ◌++◌, refl, ap, sym, arith}
-use Rattle.aeth_demo.specs.Draws.{next_number, number_after, part_of}
-use Rattle.aeth_demo.specs.Limits.{demo_connections, demo_words}
-use Rattle.aeth_demo.specs.Traces.{word_row, word_text}
-use Rattle.aeth_demo.proofs.DrawLemmas.{number_after-more}
-use Rattle.aeth_demo.proofs.Loops.{text-begin, text-end, text-more}
+use Rattle.aeth_demo.{specs.Draws.next_number, specs.Draws.number_after, specs.Draws.part_of}
+use Rattle.aeth_demo.{specs.Limits.demo_connections, specs.Limits.demo_words, specs.Traces.word_row}
+use Rattle.aeth_demo.{specs.Traces.word_text, proofs.DrawLemmas.number_after-more}
+use Rattle.aeth_demo.{proofs.Loops.text-begin, proofs.Loops.text-end, proofs.Loops.text-more}
 use Rattle.aeth_demo.proofs.traces.push_words.Goals as goal
 
 -- No draw was made yet.

@@ -1,8 +1,6 @@
 use Rattle.std.proofs.Common.{◌≡◌, ◌<◌, ◌++◌, ℕ, List}
-use Rattle.aeth_demo.specs.Draws.{generator_modulus, number_after}
-use Rattle.aeth_demo.specs.Limits.{demo_words}
-use Rattle.aeth_demo.specs.Traces.{word_text}
-use Rattle.aeth_demo.specs.Pieces.{texts_below}
+use Rattle.aeth_demo.specs.{Draws.generator_modulus, Draws.number_after, Limits.demo_words}
+use Rattle.aeth_demo.specs.{Traces.word_text, Pieces.texts_below}
 use Rattle.aeth_demo.proofs.Loops.{texts_from}
 use Rattle.aeth_demo.proofs.traces.push_words.Given as goal
 

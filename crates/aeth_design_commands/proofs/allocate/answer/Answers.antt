@@ -1,14 +1,12 @@
 use Rattle.std.proofs.lemmas.Result.{err_from_is_err_and}
-use Rattle.aeth_alloc.specs.Allocation.{allocation}
-use Rattle.aeth_alloc.specs.Prices.{prices_of}
+use Rattle.aeth_alloc.specs.{Allocation.allocation, Prices.prices_of}
 use Rattle.aeth_group.specs.Members.{groups_of}
 use Rattle.aeth_plan.specs.declared.design.Design.{Design}
-use Rattle.aeth_answers.specs.Places.{files_of}
-use Rattle.aeth_answers.specs.Task.{Task, ends}
+use Rattle.aeth_answers.specs.{Places.files_of, Task.Task, Task.ends}
 use Rattle.aeth_answers.proofs.FileLemmas.{Answers-ended, Answers-stopped, Answers-then}
 use Rattle.aeth_design_commands.specs.Allocate.{allocate_job}
-use Rattle.aeth_files.specs.Files.{design_file}
 use Rattle.aeth_design_commands.proofs.AllocationLemmas.{outcome_job-below, outcome_job-command}
+use Rattle.aeth_files.specs.Files.{design_file}
 use Rattle.aeth_design_commands.proofs.allocate.answer.Goals as goal
 
 -- What comes of a design.

@@ -1,5 +1,4 @@
-use Rattle.std.proofs.Common.{◌≡◌, ◌++◌, drop}
-use Rattle.std.specs.Prelude.{flat_map}
+use Rattle.std.proofs.Common.{◌≡◌, ◌++◌, drop, flat_map}
 use Rattle.aeth_design_commands.specs.Allocate.{refusal_text}
 use Rattle.aeth_design_commands.proofs.allocate.refusals.Given as goal
 

@@ -1,5 +1,4 @@
-use Rattle.std.proofs.Common.{◌≡◌, ◌++◌, take}
-use Rattle.std.specs.Prelude.{flat_map}
+use Rattle.std.proofs.Common.{◌≡◌, ◌++◌, take, flat_map}
 use Rattle.aeth_design_commands.specs.App.{need_text}
 use Rattle.aeth_design_commands.proofs.app.push_needs.Given as goal
 

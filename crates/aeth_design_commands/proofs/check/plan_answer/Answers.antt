@@ -1,10 +1,6 @@
-use Rattle.std.specs.Prelude.{codes}
-use Rattle.std.proofs.lemmas.Result.{err_from_is_err_and}
-use Rattle.aeth_plan.specs.Plan.{PlanData}
-use Rattle.aeth_plan.specs.declared.design.Planned.{Planned}
-use Rattle.aeth_answers.specs.Job.{done}
-use Rattle.aeth_answers.specs.Places.{files_of}
-use Rattle.aeth_answers.specs.Task.{Task, ends}
+use Rattle.std.proofs.{Common.codes, lemmas.Result.err_from_is_err_and}
+use Rattle.aeth_plan.specs.{Plan.PlanData, declared.design.Planned.Planned}
+use Rattle.aeth_answers.specs.{Job.done, Places.files_of, Task.Task, Task.ends}
 use Rattle.aeth_answers.proofs.FileLemmas.{Answers-done, Answers-stopped, Answers-then}
 use Rattle.aeth_files.specs.Plans.{accepted_file}
 use Rattle.aeth_design_commands.proofs.check.plan_answer.Goals as goal

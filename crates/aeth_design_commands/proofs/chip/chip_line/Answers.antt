@@ -1,5 +1,4 @@
-use Rattle.std.proofs.Common.{◌≡◌, ◌++◌, ℕ, sym, append_assoc}
-use Rattle.std.specs.Prelude.{codes, decimal}
+use Rattle.std.proofs.Common.{◌≡◌, ◌++◌, ℕ, sym, append_assoc, codes, decimal}
 use Rattle.aeth_design_commands.proofs.chip.chip_line.Goals as goal
 
 -- The parts of the line, from the last to the first and from the first to the last.

@@ -1,6 +1,5 @@
 use Rattle.std.proofs.Common.{◌≡◌, drop}
-use Rattle.aeth_document.specs.Keys.{fields_view}
-use Rattle.aeth_document.specs.KeysInOrder.{are_optional}
+use Rattle.aeth_document.specs.{Keys.fields_view, KeysInOrder.are_optional}
 use Rattle.aeth_document.proofs.keys.are_optional.Given as goal
 
 abbrev pub invariant-loop-field : goal.invariant-loop-field

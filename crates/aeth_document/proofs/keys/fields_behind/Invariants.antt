@@ -1,7 +1,6 @@
 use Rattle.std.proofs.Common.{◌≡◌, length}
 use Rattle.toml.specs.View.{view}
-use Rattle.aeth_document.specs.Keys.{fields_view}
-use Rattle.aeth_document.specs.KeysInOrder.{fields_behind}
+use Rattle.aeth_document.specs.{Keys.fields_view, KeysInOrder.fields_behind}
 use Rattle.aeth_document.proofs.keys.fields_behind.Given as goal
 
 abbrev pub invariant-loop-field : goal.invariant-loop-field

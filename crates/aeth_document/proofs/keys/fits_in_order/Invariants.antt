@@ -1,7 +1,6 @@
 use Rattle.std.proofs.Common.{◌≡◌}
 use Rattle.toml.specs.View.{table_view, members_view}
-use Rattle.aeth_document.specs.Keys.{entries_of, fields_view}
-use Rattle.aeth_document.specs.KeysInOrder.{fits_in_order}
+use Rattle.aeth_document.specs.{Keys.entries_of, Keys.fields_view, KeysInOrder.fits_in_order}
 use Rattle.aeth_document.proofs.keys.fits_in_order.Given as goal
 
 abbrev pub invariant-loop-key : goal.invariant-loop-key

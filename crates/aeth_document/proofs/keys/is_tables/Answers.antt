@@ -1,6 +1,5 @@
 use Rattle.std.proofs.Common.{◌∙◌, is_some}
-use Rattle.toml.specs.Data.{as_table}
-use Rattle.toml.specs.View.{view}
+use Rattle.toml.specs.{Data.as_table, View.view}
 use Rattle.aeth_document.proofs.TableLemmas.{all_items-view}
 use Rattle.aeth_document.proofs.keys.is_tables.Goals as goal
 

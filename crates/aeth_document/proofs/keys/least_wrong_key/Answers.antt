@@ -1,8 +1,7 @@
 use Rattle.std.proofs.Common.{◌∙◌, ◌≡◌, sym, true}
 use Rattle.toml.specs.View.{table_view}
-use Rattle.aeth_document.specs.Keys.{fields_view, missing_keys, misfit_keys, entries_of}
-use Rattle.aeth_document.specs.Keys.{least_wrong_key}
-use Rattle.aeth_document.specs.KeysInOrder.{fits_in_order}
+use Rattle.aeth_document.specs.{Keys.fields_view, Keys.missing_keys, Keys.misfit_keys}
+use Rattle.aeth_document.specs.{Keys.entries_of, Keys.least_wrong_key, KeysInOrder.fits_in_order}
 use Rattle.aeth_document.proofs.KeysInOrder.{none_wrong}
 use Rattle.aeth_document.proofs.Least.{ascending, least-append_none, least-append_misfits}
 use Rattle.aeth_document.proofs.keys.least_wrong_key.Goals as goal

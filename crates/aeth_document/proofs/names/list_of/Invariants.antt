@@ -1,5 +1,4 @@
-use Rattle.std.proofs.Common.{◌≡◌, ◌++◌}
-use Rattle.std.specs.List.{filter_map}
+use Rattle.std.{proofs.Common.◌≡◌, proofs.Common.◌++◌, specs.List.filter_map}
 use Rattle.aeth_document.specs.Arrays.{texts_in}
 use Rattle.aeth_base.specs.Name.{name_of}
 use Rattle.aeth_document.proofs.names.list_of.Given as goal

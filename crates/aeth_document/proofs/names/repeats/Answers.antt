@@ -1,6 +1,6 @@
-use Rattle.std.proofs.Common.{◌∙◌, ◌++◌, ◌∷◌, [], arith, length, length-append, map, sym, append_assoc}
-use Rattle.aeth_document.specs.Arrays.{texts_in}
-use Rattle.aeth_document.specs.Walks.{repeats}
+use Rattle.std.proofs.Common.{◌∙◌, ◌++◌, ◌∷◌, [], arith, length, length-append, map, sym}
+use Rattle.std.proofs.Common.{append_assoc}
+use Rattle.aeth_document.specs.{Arrays.texts_in, Walks.repeats}
 use Rattle.aeth_document.proofs.TextLemmas.{front_kept}
 use Rattle.aeth_document.proofs.WalkLemmas.{goes_on-none, walked-append, walked-ended, walked-nil}
 use Rattle.aeth_document.proofs.names.repeats.Goals as goal

@@ -1,6 +1,5 @@
 use Rattle.std.proofs.Common.{◌≡◌, ◌≤◌, ◌++◌, length, map, take}
-use Rattle.aeth_document.specs.Arrays.{texts_in}
-use Rattle.aeth_document.specs.Walks.{repeats, walked}
+use Rattle.aeth_document.specs.{Arrays.texts_in, Walks.repeats, Walks.walked}
 use Rattle.aeth_document.proofs.names.repeats.Given as goal
 
 abbrev pub invariant-loop-text : goal.invariant-loop-text

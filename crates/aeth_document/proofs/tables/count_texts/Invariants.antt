@@ -1,7 +1,6 @@
 use Rattle.std.proofs.Common.{◌≡◌, ◌+◌, ◌≤◌, drop, length, map}
 use Rattle.std.specs.List.{filter_map}
-use Rattle.toml.specs.Data.{as_str}
-use Rattle.toml.specs.View.{view}
+use Rattle.toml.specs.{Data.as_str, View.view}
 use Rattle.aeth_document.proofs.tables.count_texts.Given as goal
 
 abbrev pub invariant-loop-value : goal.invariant-loop-value

@@ -1,7 +1,5 @@
-use Rattle.std.proofs.Common.{◌≡◌, length, map}
-use Rattle.std.specs.List.{filter_map}
-use Rattle.toml.specs.Data.{as_str}
-use Rattle.toml.specs.View.{view}
+use Rattle.std.{proofs.Common.◌≡◌, proofs.Common.length, proofs.Common.map, specs.List.filter_map}
+use Rattle.toml.specs.{Data.as_str, View.view}
 use Rattle.aeth_document.proofs.tables.first_text.Given as goal
 
 abbrev pub invariant-loop-value : goal.invariant-loop-value

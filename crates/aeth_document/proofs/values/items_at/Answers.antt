@@ -1,6 +1,5 @@
 use Rattle.std.proofs.Common.{sym}
-use Rattle.aeth_document.proofs.TableLemmas.{listed-items_view}
-use Rattle.aeth_document.specs.Values.{items_at}
+use Rattle.aeth_document.{proofs.TableLemmas.listed-items_view, specs.Values.items_at}
 use Rattle.aeth_document.proofs.values.items_at.Goals as goal
 
 pub returns-in-Some-as_array : goal.returns-in-Some-as_array

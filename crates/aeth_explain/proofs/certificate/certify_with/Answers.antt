@@ -1,13 +1,11 @@
-use Rattle.std.proofs.Common.{◌≡◌, List, Option, subst}
-use Rattle.std.specs.Prelude.{IfOk}
+use Rattle.std.proofs.Common.{◌≡◌, List, Option, subst, IfOk}
 use Rattle.aeth_base.specs.declared.ids.LinkId.{LinkId}
 use Rattle.aeth_chip.specs.Chip.{ChipData}
 use Rattle.aeth_paths.specs.Trials.{TrialData}
 use Rattle.aeth_explain.specs.Certificate.{certificate_of}
-use Rattle.aeth_explain.proofs.LeastLemmas.{certificate-order}
-use Rattle.aeth_explain.proofs.StepLemmas.{certificate-told}
+use Rattle.aeth_explain.proofs.{LeastLemmas.certificate-order, StepLemmas.certificate-told}
+use Rattle.aeth_explain.proofs.{certificate.certify_with.Goals.After-shortest_cuts}
 use Rattle.aeth_explain.proofs.certificate.certify_with.Goals as goal
-use Rattle.aeth_explain.proofs.certificate.certify_with.Goals.{After-shortest_cuts}
 
 -- It is the certificate of the try.
 gives : (c : After-shortest_cuts)

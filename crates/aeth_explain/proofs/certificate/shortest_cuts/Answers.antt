@@ -1,6 +1,5 @@
 use Rattle.std.proofs.Common.{◌∙◌, Bool, Ok, ap, false, true}
-use Rattle.aeth_explain.specs.TryPaths.{leaving_lists}
-use Rattle.aeth_explain.specs.Walks.{IsWalked}
+use Rattle.aeth_explain.specs.{TryPaths.leaving_lists, Walks.IsWalked}
 use Rattle.aeth_explain.proofs.StepLemmas.{certificate-none, certificate-some, told-ok}
 use Rattle.aeth_explain.proofs.certificate.shortest_cuts.Goals as goal
 

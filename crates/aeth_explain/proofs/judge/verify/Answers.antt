@@ -1,10 +1,8 @@
-use Rattle.std.proofs.Common.{◌≡◌, List, subst}
-use Rattle.std.specs.Prelude.{IfOk}
+use Rattle.std.proofs.Common.{◌≡◌, List, subst, IfOk}
 use Rattle.aeth_base.specs.declared.ids.LinkId.{LinkId}
 use Rattle.aeth_explain.specs.Masks.{TryJudgeData}
 use Rattle.aeth_explain.specs.Verdict.{IsLeastOpen}
-use Rattle.aeth_explain.specs.declared.verdict.CutVerdict.{CutVerdict}
-use Rattle.aeth_explain.specs.declared.verdict.CutVerdict.TheVariants.{Open}
+use Rattle.aeth_explain.specs.declared.verdict.CutVerdict.{CutVerdict, TheVariants.Open}
 use Rattle.aeth_explain.proofs.judge.verify.Goals as goal
 
 -- The judge is one of the try.

@@ -1,10 +1,9 @@
 use Rattle.std.proofs.Common.{◌≡◌, ◌∙◌, ◌↔◌, subst, sym}
 use Rattle.aeth_explain.specs.Cuts.{IsCertificate}
-use Rattle.aeth_explain.specs.declared.verdict.CutVerdict.{CutVerdict}
-use Rattle.aeth_explain.specs.declared.verdict.CutVerdict.TheVariants.{Complete}
+use Rattle.aeth_explain.specs.declared.verdict.CutVerdict.{CutVerdict, TheVariants.Complete}
 use Rattle.aeth_explain.proofs.LeastLemmas.{least-named}
-use Rattle.aeth_explain.proofs.VerdictLemmas.{first-reordered, verdict-all, verdict-complete, verdict-no}
-use Rattle.aeth_explain.proofs.VerdictLemmas.{verdict-open}
+use Rattle.aeth_explain.proofs.VerdictLemmas.{first-reordered, verdict-all, verdict-complete}
+use Rattle.aeth_explain.proofs.VerdictLemmas.{verdict-no, verdict-open}
 use Rattle.aeth_explain.proofs.judge.verify_with.Goals as goal
 
 -- A list is no cut.

@@ -1,20 +1,16 @@
-use Rattle.std.proofs.Common.{◌≡◌, ◌∙◌, ◌-◌, arith, sym}
-use Rattle.std.specs.Prelude.{slice_get}
+use Rattle.std.proofs.Common.{◌≡◌, ◌∙◌, ◌-◌, arith, sym, slice_get}
 use Rattle.aeth_base.proofs.Members.{Contains-slice_get}
 use Rattle.aeth_base.proofs.TestLemmas.{is_some-false, is_some-true}
-use Rattle.aeth_chip.specs.Nodes.{sends_on}
-use Rattle.aeth_chip.specs.declared.node.Node.TheVariants.{Router}
+use Rattle.aeth_chip.specs.{Nodes.sends_on, declared.node.Node.TheVariants.Router}
 use Rattle.aeth_paths.specs.Task.{links_from}
-use Rattle.aeth_paths.proofs.PrefixLemmas.{link-at}
-use Rattle.aeth_paths.proofs.StepLemmas.{few-leave}
-use Rattle.aeth_explain.specs.Fronts.{open_over}
-use Rattle.aeth_explain.specs.Verdict.{is_open}
+use Rattle.aeth_paths.proofs.{PrefixLemmas.link-at, StepLemmas.few-leave}
+use Rattle.aeth_explain.specs.{Fronts.open_over, Verdict.is_open}
 use Rattle.aeth_explain.proofs.OpenLemmas.{first-found, first-next}
-use Rattle.aeth_explain.proofs.OverLemmas.{below, none-left, none-over-all}
-use Rattle.aeth_explain.proofs.OverLemmas.{none-past, over-is, over-links}
-use Rattle.aeth_explain.proofs.open_paths.+open_below.Goals as goal
+use Rattle.aeth_explain.proofs.OverLemmas.{below, none-left, none-over-all, none-past, over-is}
+use Rattle.aeth_explain.proofs.OverLemmas.{over-links}
 use Rattle.aeth_explain.proofs.open_paths.+open_below.Goals.{in-Away, in-Onward, in-Open}
 use Rattle.aeth_explain.proofs.open_paths.+open_below.Goals.{After-exit, After-is_some}
+use Rattle.aeth_explain.proofs.open_paths.+open_below.Goals as goal
 
 -- No link may follow.
 pub returns-then-left-eq0 : goal.returns-then-left-eq0

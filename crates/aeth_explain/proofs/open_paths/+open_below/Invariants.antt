@@ -1,7 +1,6 @@
 use Rattle.std.proofs.Common.{◌≡◌, ◌-◌, ◌++◌, ◌∷◌, [], None, take}
 use Rattle.std.specs.List.{flat_map}
-use Rattle.aeth_chip.specs.Paths.{to_of}
-use Rattle.aeth_chip.specs.declared.node.Node.TheVariants.{Router}
+use Rattle.aeth_chip.specs.{Paths.to_of, declared.node.Node.TheVariants.Router}
 use Rattle.aeth_paths.specs.Task.{links_from}
 use Rattle.aeth_explain.specs.Fronts.{first_open, lists_below}
 use Rattle.aeth_explain.proofs.open_paths.+open_below.Given as goal

@@ -1,17 +1,12 @@
 use Rattle.std.proofs.Common.{◌≡◌, ◌∙◌, ◌-◌, ◌++◌, [], ◌∷◌, ap, subst, sym}
 use Rattle.aeth_base.specs.Limits.{max_path_links}
-use Rattle.aeth_chip.specs.Chip.{IsNode}
-use Rattle.aeth_chip.specs.Paths.{to_in}
-use Rattle.aeth_chip.specs.declared.node.Node.TheVariants.{Ni}
+use Rattle.aeth_chip.specs.{Chip.IsNode, Paths.to_in, declared.node.Node.TheVariants.Ni}
 use Rattle.aeth_paths.proofs.StepLemmas.{link-below}
-use Rattle.aeth_explain.specs.Cuts.{begins_with}
-use Rattle.aeth_explain.specs.Fronts.{IsFront}
-use Rattle.aeth_explain.specs.Places.{AreWithin}
-use Rattle.aeth_explain.specs.Verdict.{is_covered}
-use Rattle.aeth_explain.proofs.FrontLemmas.{first-front}
-use Rattle.aeth_explain.proofs.OverLemmas.{first-covered, first-there}
+use Rattle.aeth_explain.{specs.Cuts.begins_with, specs.Fronts.IsFront, specs.Places.AreWithin}
+use Rattle.aeth_explain.{specs.Verdict.is_covered, proofs.FrontLemmas.first-front}
+use Rattle.aeth_explain.{proofs.OverLemmas.first-covered, proofs.OverLemmas.first-there}
+use Rattle.aeth_explain.{proofs.open_paths.first_from.Goals.After-with_link-path}
 use Rattle.aeth_explain.proofs.open_paths.first_from.Goals as goal
-use Rattle.aeth_explain.proofs.open_paths.first_from.Goals.{After-with_link-path}
 
 -- The list is the link.
 alone : (c : After-with_link-path) → c.with_link-path.result ≡ c.args.link ∷ []

@@ -1,15 +1,15 @@
-use Rattle.std.proofs.Common.{◌∙◌, ap, arith, eqb, sym}
-use Rattle.std.specs.List.{list_any}
-use Rattle.std.proofs.lemmas.Option.{slice_get_within}
+use Rattle.std.{proofs.Common.◌∙◌, proofs.Common.ap, proofs.Common.arith, proofs.Common.eqb}
+use Rattle.std.{proofs.Common.sym, specs.List.list_any, proofs.lemmas.Option.slice_get_within}
 use Rattle.aeth_base.specs.declared.ids.NiId.{NiId}
 use Rattle.aeth_base.proofs.TestLemmas.{is_some-false, is_some-true}
 use Rattle.aeth_chip.specs.declared.node.Node.TheVariants.{Ni}
 use Rattle.aeth_paths.proofs.JoinLemmas.{begins-leaving}
 use Rattle.aeth_explain.proofs.FirstLemmas.{begins-told, from-among, leaves-other, leaves-router}
-use Rattle.aeth_explain.proofs.FirstLemmas.{leaves-yes, so-far-all, so-far-no, so-far-none, so-far-some}
-use Rattle.aeth_explain.proofs.open_paths.first_open.Goals as goal
+use Rattle.aeth_explain.proofs.FirstLemmas.{leaves-yes, so-far-all, so-far-no, so-far-none}
+use Rattle.aeth_explain.proofs.FirstLemmas.{so-far-some}
 use Rattle.aeth_explain.proofs.open_paths.first_open.Goals.{in-Ni+else-is_among, in_default}
 use Rattle.aeth_explain.proofs.open_paths.first_open.Goals.{in-Ni+then-is_among+in_ok-found+else-is_some}
+use Rattle.aeth_explain.proofs.open_paths.first_open.Goals as goal
 
 -- The interface is a sender.
 pub first_from-requires-clause-sender : goal.first_from-requires-clause-sender

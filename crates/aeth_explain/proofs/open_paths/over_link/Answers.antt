@@ -1,18 +1,15 @@
 use Rattle.std.proofs.Common.{◌∙◌, ◌∷◌, [], Some, ap, arith, length, subst, sym}
-use Rattle.aeth_chip.specs.Chip.{IsNode}
-use Rattle.aeth_chip.specs.Paths.{to_in}
-use Rattle.aeth_chip.specs.declared.node.Node.TheVariants.{Router}
+use Rattle.aeth_chip.specs.{Chip.IsNode, Paths.to_in, declared.node.Node.TheVariants.Router}
 use Rattle.aeth_paths.proofs.StepLemmas.{link-below}
-use Rattle.aeth_explain.specs.Cuts.{begins_with}
-use Rattle.aeth_explain.specs.Fronts.{IsFront}
-use Rattle.aeth_explain.specs.Places.{AreWithin}
-use Rattle.aeth_explain.specs.Verdict.{is_covered}
+use Rattle.aeth_explain.specs.{Cuts.begins_with, Fronts.IsFront, Places.AreWithin}
+use Rattle.aeth_explain.specs.{Verdict.is_covered}
 use Rattle.aeth_explain.proofs.FrontLemmas.{longer-front}
-use Rattle.aeth_explain.proofs.OverLemmas.{over-again, over-covered, over-far, over-long, over-there}
+use Rattle.aeth_explain.proofs.OverLemmas.{over-again, over-covered, over-far, over-long}
+use Rattle.aeth_explain.proofs.OverLemmas.{over-there}
 use Rattle.aeth_explain.proofs.PlaceLemmas.{covers-within, longer-within}
-use Rattle.aeth_explain.proofs.open_paths.over_link.Goals as goal
 use Rattle.aeth_explain.proofs.open_paths.over_link.Goals.{then-passes-via-then-passes}
 use Rattle.aeth_explain.proofs.open_paths.over_link.Goals.{then-passes-via-else-passes+then-len-links_at}
+use Rattle.aeth_explain.proofs.open_paths.over_link.Goals as goal
 
 -- The lists with which the longer one begins are between the places.
 pub is_covered-requires-clause-within : goal.is_covered-requires-clause-within

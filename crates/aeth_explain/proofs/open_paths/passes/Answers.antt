@@ -1,9 +1,7 @@
 use Rattle.std.proofs.Common.{◌∙◌, ◌+◌, ◌||◌, ap, drop, sym}
 use Rattle.aeth_base.proofs.Lists.{drop-slice_get}
-use Rattle.aeth_chip.specs.Nodes.{same_node}
-use Rattle.aeth_chip.specs.Paths.{to_in, to_of}
-use Rattle.aeth_chip.specs.declared.node.Node.{Node}
-use Rattle.aeth_chip.specs.declared.node.Node.TheVariants.{Router}
+use Rattle.aeth_chip.specs.{Nodes.same_node, Paths.to_in, Paths.to_of, declared.node.Node.Node}
+use Rattle.aeth_chip.specs.{declared.node.Node.TheVariants.Router}
 use Rattle.aeth_paths.specs.Search.{passes}
 use Rattle.aeth_explain.proofs.open_paths.passes.Goals as goal
 

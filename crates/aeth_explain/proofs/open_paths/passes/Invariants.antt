@@ -1,6 +1,5 @@
 use Rattle.std.proofs.Common.{◌≡◌, drop}
-use Rattle.aeth_chip.specs.Paths.{to_of}
-use Rattle.aeth_chip.specs.declared.node.Node.TheVariants.{Router}
+use Rattle.aeth_chip.specs.{Paths.to_of, declared.node.Node.TheVariants.Router}
 use Rattle.aeth_paths.specs.Search.{passes}
 use Rattle.aeth_explain.proofs.open_paths.passes.Given as goal
 

@@ -1,6 +1,6 @@
 use Rattle.std.proofs.Common.{◌∙◌, ◌≤◌, ◌⊎◌, ap, arith, inl, inr, length, sym}
-use Rattle.std.specs.Ordering.{nat_cmp}
 use Rattle.std.proofs.lemmas.Bool.{cases_lt}
+use Rattle.std.specs.Ordering.{nat_cmp}
 use Rattle.aeth_base.specs.declared.ids.LinkId.{LinkId}
 use Rattle.aeth_explain.proofs.CompareLemmas.{compared-alike, compared-end, compared-unlike}
 use Rattle.aeth_explain.proofs.order.dictionary.Goals as goal

@@ -1,5 +1,4 @@
-use Rattle.std.proofs.Common.{◌∙◌, ◌+◌, ◌&&◌, ap, arith, drop, sym}
-use Rattle.std.proofs.lemmas.Bool.{eq-eqb, ne_eqb}
+use Rattle.std.proofs.Common.{◌∙◌, ◌+◌, ◌&&◌, ap, arith, drop, sym, eq-eqb, ne_eqb}
 use Rattle.aeth_explain.specs.Cuts.{begins_with}
 use Rattle.aeth_explain.proofs.OpenLemmas.{begins-long, begins-step}
 use Rattle.aeth_explain.proofs.places.begins_with.Goals as goal

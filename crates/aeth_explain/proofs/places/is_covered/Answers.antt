@@ -1,6 +1,5 @@
 use Rattle.std.proofs.Common.{arith, sym}
-use Rattle.aeth_explain.specs.Cuts.{begins_with}
-use Rattle.aeth_explain.proofs.PlaceLemmas.{none-within}
+use Rattle.aeth_explain.{specs.Cuts.begins_with, proofs.PlaceLemmas.none-within}
 use Rattle.aeth_explain.proofs.places.is_covered.Goals as goal
 
 -- No list is left.

@@ -1,5 +1,4 @@
-use Rattle.aeth_explain.specs.Cuts.{begins_with}
-use Rattle.aeth_explain.specs.Places.{AreWithin}
+use Rattle.aeth_explain.specs.{Cuts.begins_with, Places.AreWithin}
 use Rattle.aeth_explain.proofs.places.is_covered.Given as goal
 
 -- The lists with which the path begins are among those that are left.

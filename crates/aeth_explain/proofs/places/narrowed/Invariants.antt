@@ -1,6 +1,5 @@
 use Rattle.std.proofs.Common.{◌≤◌, ◌-◌, length}
-use Rattle.aeth_explain.specs.Cuts.{begins_with}
-use Rattle.aeth_explain.specs.Places.{AreWithin}
+use Rattle.aeth_explain.specs.{Cuts.begins_with, Places.AreWithin}
 use Rattle.aeth_explain.proofs.places.narrowed.Given as goal
 
 -- The lists that begin with the path are among those that are left.

@@ -1,8 +1,6 @@
-use Rattle.std.proofs.Common.{◌≡◌, List}
-use Rattle.std.specs.Prelude.{All, length}
+use Rattle.std.proofs.Common.{◌≡◌, List, All, length}
 use Rattle.aeth_base.specs.declared.ids.LinkId.{LinkId}
-use Rattle.aeth_explain.specs.CutsFaults.{rule_of}
-use Rattle.aeth_explain.specs.CutsText.{AreLinksOf}
+use Rattle.aeth_explain.specs.{CutsFaults.rule_of, CutsText.AreLinksOf}
 use Rattle.aeth_explain.proofs.ReadLemmas.{if-read, read-count, read-links}
 use Rattle.aeth_explain.proofs.reading.read_blocks.Goals as goal
 

@@ -1,14 +1,13 @@
-use Rattle.std.proofs.Common.{◌≡◌, ◌∙◌, Some, ap, arith, get_or, inl, inr, subst, sym}
-use Rattle.std.specs.Prelude.{slice_get, slice_index}
+use Rattle.std.proofs.Common.{◌≡◌, ◌∙◌, Some, ap, arith, get_or, inl, inr, subst, sym, slice_get}
+use Rattle.std.proofs.Common.{slice_index}
 use Rattle.std.proofs.lemmas.Bool.{cases_lt}
 use Rattle.std.proofs.lemmas.Option.{get_or_from_slice_get, none-some, same_Some, slice_get_within}
-use Rattle.aeth_base.proofs.Members.{slice_get-Contains}
-use Rattle.aeth_base.specs.declared.ids.NiId.{NiId}
+use Rattle.aeth_base.{proofs.Members.slice_get-Contains, specs.declared.ids.NiId.NiId}
 use Rattle.aeth_chip.specs.Paths.{IsOnwardDistance}
 use Rattle.aeth_explain.proofs.SenderLemmas.{one-least}
-use Rattle.aeth_explain.proofs.senders.most_at.Goals as goal
 use Rattle.aeth_explain.proofs.senders.most_at.Goals.{else-links-most, then-links-most+in-Some}
 use Rattle.aeth_explain.proofs.senders.most_at.Goals.{then-links-most+in_default}
+use Rattle.aeth_explain.proofs.senders.most_at.Goals as goal
 
 -- It is enough for one interface more.
 pub loop-i-preserved : goal.loop-i-preserved

@@ -1,5 +1,4 @@
-use Rattle.std.proofs.Common.{◌≡◌, ◌<◌, ◌≤◌, ◌+◌, ℕ, Some}
-use Rattle.std.specs.Prelude.{slice_get, slice_index}
+use Rattle.std.proofs.Common.{◌≡◌, ◌<◌, ◌≤◌, ◌+◌, ℕ, Some, slice_get, slice_index}
 use Rattle.aeth_base.specs.declared.ids.NiId.{NiId}
 use Rattle.aeth_chip.specs.Paths.{IsOnwardDistance}
 use Rattle.aeth_explain.proofs.senders.most_at.Given as goal

@@ -1,6 +1,6 @@
 use Rattle.std.proofs.Common.{◌∙◌, ◌++◌, ◌∷◌, [], ap, arith, length, length-append, map, sym}
-use Rattle.std.specs.List.{range_with_len}
 use Rattle.std.proofs.lemmas.List.{map-append}
+use Rattle.std.specs.List.{range_with_len}
 use Rattle.aeth_explain.specs.SlotTables.{taken_by}
 use Rattle.aeth_explain.proofs.MaskLemmas.{range-next, row-table}
 use Rattle.aeth_explain.proofs.slot_tables.joined.Goals as goal

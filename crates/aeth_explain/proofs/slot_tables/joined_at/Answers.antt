@@ -1,6 +1,5 @@
-use Rattle.std.proofs.Common.{[], ◌≡◌, ◌<◌, ◌≤◌, ◌+◌, ◌*◌, ◌∙◌, Some, ap, arith, get_or, length, sym, take}
-use Rattle.std.specs.Prelude.{slice_get}
-use Rattle.std.proofs.lemmas.List.{take_all}
+use Rattle.std.proofs.Common.{[], ◌≡◌, ◌<◌, ◌≤◌, ◌+◌, ◌*◌, ◌∙◌, Some, ap, arith, get_or, length}
+use Rattle.std.proofs.Common.{sym, take, slice_get, take_all}
 use Rattle.std.proofs.lemmas.Option.{same_Some, slice_get-get_or}
 use Rattle.aeth_slots.specs.SlotSet.{Slots, joined, slots_where}
 use Rattle.aeth_group.proofs.TableLemmas.{mask_size}

@@ -1,7 +1,6 @@
 use Rattle.std.proofs.Common.{◌≡◌, ◌∙◌, Some, ap, arith, slice_get, sym, take}
 use Rattle.std.proofs.lemmas.Option.{slice_get-get_or}
-use Rattle.aeth_explain.specs.SlotTables.{is_occupied}
-use Rattle.aeth_explain.proofs.MaskLemmas.{occupied-more}
+use Rattle.aeth_explain.{specs.SlotTables.is_occupied, proofs.MaskLemmas.occupied-more}
 use Rattle.aeth_explain.proofs.slot_tables.put_grants.Goals as goal
 
 -- What is in so far is a table.

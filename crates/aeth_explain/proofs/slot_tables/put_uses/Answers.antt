@@ -1,8 +1,8 @@
 use Rattle.std.proofs.Common.{◌∙◌, length, sym, true}
 use Rattle.aeth_group.proofs.TableLemmas.{still_table}
 use Rattle.aeth_group.proofs.TableUseLemmas.{uses_skip, uses_step}
-use Rattle.aeth_explain.proofs.slot_tables.put_uses.Goals as goal
 use Rattle.aeth_explain.proofs.slot_tables.put_uses.Goals.{then-has_unit, else-has_unit}
+use Rattle.aeth_explain.proofs.slot_tables.put_uses.Goals as goal
 
 -- What has been put in so far is a table.
 pub put-requires-clause-table : goal.put-requires-clause-table

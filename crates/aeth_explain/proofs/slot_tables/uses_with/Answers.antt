@@ -3,8 +3,8 @@ use Rattle.std.specs.List.{range_with_len}
 use Rattle.aeth_book.proofs.FilterLemmas.{filter-push, filter-skip}
 use Rattle.aeth_group.specs.Members.{has_unit}
 use Rattle.aeth_explain.proofs.MaskLemmas.{range-next}
-use Rattle.aeth_explain.proofs.slot_tables.uses_with.Goals as goal
 use Rattle.aeth_explain.proofs.slot_tables.uses_with.Goals.{then-has_unit+in_ok-push, else-has_unit}
+use Rattle.aeth_explain.proofs.slot_tables.uses_with.Goals as goal
 
 -- One use case more.
 pub loop-u-preserved : goal.loop-u-preserved

@@ -1,5 +1,4 @@
-use Rattle.std.proofs.Common.{◌≡◌, filter}
-use Rattle.std.specs.List.{range_with_len}
+use Rattle.std.{proofs.Common.◌≡◌, proofs.Common.filter, specs.List.range_with_len}
 use Rattle.aeth_group.specs.Members.{has_unit}
 use Rattle.aeth_explain.proofs.slot_tables.uses_with.Given as goal
 

@@ -2,8 +2,8 @@ use Rattle.std.proofs.Common.{◌≡◌, ◌∙◌, Some, slice_get, take, ap, s
 use Rattle.std.proofs.lemmas.Option.{slice_get-get_or}
 use Rattle.aeth_explain.specs.Masks.{is_held}
 use Rattle.aeth_explain.proofs.MaskLemmas.{held-more, held-same}
-use Rattle.aeth_explain.proofs.taken.put_rivals.Goals as goal
 use Rattle.aeth_explain.proofs.taken.put_rivals.Goals.{then-is_rival, else-is_rival}
+use Rattle.aeth_explain.proofs.taken.put_rivals.Goals as goal
 
 -- What has been put in so far is a table.
 pub put-requires-clause-table : goal.put-requires-clause-table

@@ -1,24 +1,20 @@
-use Rattle.std.proofs.Common.{◌≡◌, ◌∙◌, ◌+◌, ◌-◌, ◌≢◌, Bool, List, ℕ, ap, arith, false}
-use Rattle.std.proofs.Common.{length, refl, subst, sym, true}
+use Rattle.std.proofs.Common.{◌≡◌, ◌∙◌, ◌+◌, ◌-◌, ◌≢◌, Bool, List, ℕ, ap, arith, false, length}
+use Rattle.std.proofs.Common.{refl, subst, sym, true}
 use Rattle.std.specs.List.{list_any}
-use Rattle.aeth_base.specs.Limits.{max_path_links}
-use Rattle.aeth_base.specs.declared.ids.LinkId.{LinkId}
+use Rattle.aeth_base.specs.{Limits.max_path_links, declared.ids.LinkId.LinkId}
 use Rattle.aeth_chip.specs.Paths.{to_of}
-use Rattle.aeth_chip.specs.declared.node.Node.{Node}
-use Rattle.aeth_chip.specs.declared.node.Node.TheVariants.{Router}
-use Rattle.aeth_paths.specs.Task.{links_from}
-use Rattle.aeth_paths.proofs.StepLemmas.{few-leave}
-use Rattle.aeth_explain.specs.Certificate.{shorter_fronts}
-use Rattle.aeth_explain.specs.Fronts.{lists_below}
-use Rattle.aeth_explain.specs.TryPaths.{is_dead}
-use Rattle.aeth_explain.specs.Walks.{IsWalked}
-use Rattle.aeth_explain.proofs.StepLemmas.{below, port-at, link-leaves, links-past, open-may, path-fronts}
-use Rattle.aeth_explain.proofs.StepLemmas.{path-room, same-ok, told-ok, tried-dead, tried-links}
-use Rattle.aeth_explain.proofs.StepLemmas.{walked-as, walked-away, walked-end, walked-links}
-use Rattle.aeth_explain.proofs.StepLemmas.{walked-longer, walked-past}
+use Rattle.aeth_chip.specs.declared.node.Node.{Node, TheVariants.Router}
+use Rattle.aeth_paths.{specs.Task.links_from, proofs.StepLemmas.few-leave}
+use Rattle.aeth_explain.specs.{Certificate.shorter_fronts, Fronts.lists_below, TryPaths.is_dead}
+use Rattle.aeth_explain.specs.{Walks.IsWalked}
+use Rattle.aeth_explain.proofs.StepLemmas.{below, port-at, link-leaves, links-past, open-may}
+use Rattle.aeth_explain.proofs.StepLemmas.{path-fronts, path-room, same-ok, told-ok, tried-dead}
+use Rattle.aeth_explain.proofs.StepLemmas.{tried-links, walked-as, walked-away, walked-end}
+use Rattle.aeth_explain.proofs.StepLemmas.{walked-links, walked-longer, walked-past}
 use Rattle.aeth_explain.proofs.WalkLemmas.{found-over, walked-next}
+use Rattle.aeth_explain.proofs.walks.+walk.Goals.{After-is_dead, In_ok-found, in-Away, in-Onward}
+use Rattle.aeth_explain.proofs.walks.+walk.Goals.{in-Open}
 use Rattle.aeth_explain.proofs.walks.+walk.Goals as goal
-use Rattle.aeth_explain.proofs.walks.+walk.Goals.{After-is_dead, In_ok-found, in-Away, in-Onward, in-Open}
 
 -- The list's links are the chip's.
 pub is_dead-requires : goal.is_dead-requires

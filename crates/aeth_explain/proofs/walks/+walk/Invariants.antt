@@ -1,10 +1,8 @@
 use Rattle.std.proofs.Common.{◌-◌, ◌++◌, ◌∷◌, [], false, take}
 use Rattle.std.specs.List.{flat_map}
-use Rattle.aeth_chip.specs.Paths.{to_of}
-use Rattle.aeth_chip.specs.declared.node.Node.TheVariants.{Router}
+use Rattle.aeth_chip.specs.{Paths.to_of, declared.node.Node.TheVariants.Router}
 use Rattle.aeth_paths.specs.Task.{links_from}
-use Rattle.aeth_explain.specs.Fronts.{lists_below}
-use Rattle.aeth_explain.specs.Walks.{IsWalked}
+use Rattle.aeth_explain.specs.{Fronts.lists_below, Walks.IsWalked}
 use Rattle.aeth_explain.proofs.walks.+walk.Given as goal
 
 -- One link fewer may follow.

@@ -1,9 +1,6 @@
-use Rattle.std.proofs.Common.{◌∙◌, [], List, false, subst, sym}
+use Rattle.std.proofs.Common.{◌∙◌, [], List, false, subst, sym, append-nil}
 use Rattle.aeth_base.specs.declared.ids.LinkId.{LinkId}
-use Rattle.aeth_explain.specs.Fronts.{lists_below}
-use Rattle.aeth_explain.specs.TryPaths.{MayTake}
-use Rattle.aeth_explain.specs.Walks.{IsWalked}
-use Rattle.std.proofs.lemmas.List.{append-nil}
+use Rattle.aeth_explain.specs.{Fronts.lists_below, TryPaths.MayTake, Walks.IsWalked}
 use Rattle.aeth_explain.proofs.BelowLemmas.{walked-cut, walked-live}
 use Rattle.aeth_explain.proofs.StepLemmas.{tried-dead, tried-links}
 use Rattle.aeth_explain.proofs.TryPathLemmas.{may_take-Decides}

@@ -1,11 +1,9 @@
 use Rattle.std.proofs.Common.{◌∙◌, ◌++◌, List, None, false, subst, sym}
-use Rattle.aeth_base.proofs.Members.{map-Contains}
-use Rattle.aeth_base.proofs.TestLemmas.{is_some-false, is_some-true}
-use Rattle.aeth_base.specs.declared.ids.LinkId.{LinkId}
+use Rattle.aeth_base.{proofs.Members.map-Contains, proofs.TestLemmas.is_some-false}
+use Rattle.aeth_base.{proofs.TestLemmas.is_some-true, specs.declared.ids.LinkId.LinkId}
 use Rattle.aeth_chip.specs.declared.node.Node.TheVariants.{Ni, Router}
-use Rattle.aeth_explain.specs.Fronts.{lists_below}
-use Rattle.aeth_explain.specs.TryPaths.{MayTake, onward_lists}
-use Rattle.aeth_explain.specs.Walks.{IsWalked}
+use Rattle.aeth_explain.specs.{Fronts.lists_below, TryPaths.MayTake, TryPaths.onward_lists}
+use Rattle.aeth_explain.specs.{Walks.IsWalked}
 use Rattle.aeth_explain.proofs.BelowLemmas.{walked-closed, walked-cut}
 use Rattle.aeth_explain.proofs.StepLemmas.{open-may, tried-open}
 use Rattle.aeth_explain.proofs.TryPathLemmas.{may_take-Decides}

@@ -1,20 +1,20 @@
-use Rattle.std.proofs.Common.{◌≡◌, ◌∙◌, ◌+◌, ◌++◌, Bool, List, Ok, ap, arith, eqb, false, subst, sym, true}
-use Rattle.std.specs.List.{list_any}
+use Rattle.std.proofs.Common.{◌≡◌, ◌∙◌, ◌+◌, ◌++◌, Bool, List, Ok, ap, arith, eqb, false, subst}
+use Rattle.std.proofs.Common.{sym, true}
 use Rattle.std.proofs.lemmas.Option.{slice_get_within}
-use Rattle.aeth_base.specs.declared.ids.LinkId.{LinkId}
-use Rattle.aeth_base.specs.declared.ids.NiId.{NiId}
+use Rattle.std.specs.List.{list_any}
+use Rattle.aeth_base.specs.declared.ids.{LinkId.LinkId, NiId.NiId}
 use Rattle.aeth_chip.specs.declared.node.Node.TheVariants.{Ni}
 use Rattle.aeth_paths.proofs.JoinLemmas.{begins-leaving}
-use Rattle.aeth_explain.specs.Fronts.{lists_so_far}
-use Rattle.aeth_explain.specs.TryPaths.{leaves_one}
-use Rattle.aeth_explain.specs.Walks.{IsWalked, may_have}
-use Rattle.aeth_explain.proofs.FirstLemmas.{begins-told, below, from-among, leaves-other, leaves-router}
-use Rattle.aeth_explain.proofs.FirstLemmas.{leaves-yes, lists-all, lists-no, lists-rest, lists-yes}
+use Rattle.aeth_explain.specs.{Fronts.lists_so_far, TryPaths.leaves_one, Walks.IsWalked}
+use Rattle.aeth_explain.specs.{Walks.may_have}
+use Rattle.aeth_explain.proofs.FirstLemmas.{begins-told, below, from-among, leaves-other}
+use Rattle.aeth_explain.proofs.FirstLemmas.{leaves-router, leaves-yes, lists-all, lists-no}
+use Rattle.aeth_explain.proofs.FirstLemmas.{lists-rest, lists-yes}
 use Rattle.aeth_explain.proofs.WalkLemmas.{found-on, walked-on}
 use Rattle.aeth_explain.proofs.StepLemmas.{told-ok}
-use Rattle.aeth_explain.proofs.walks.walk_all.Goals as goal
 use Rattle.aeth_explain.proofs.walks.walk_all.Goals.{in-Ni+else-is_among, in_default}
 use Rattle.aeth_explain.proofs.walks.walk_all.Goals.{in-Ni+then-is_among+in_ok-found+else-found}
+use Rattle.aeth_explain.proofs.walks.walk_all.Goals as goal
 
 -- The interface is a sender.
 pub walk_from-requires-clause-sender : goal.walk_from-requires-clause-sender

@@ -1,6 +1,5 @@
 use Rattle.std.proofs.Common.{false}
-use Rattle.aeth_explain.specs.Fronts.{lists_so_far}
-use Rattle.aeth_explain.specs.Walks.{IsWalked}
+use Rattle.aeth_explain.specs.{Fronts.lists_so_far, Walks.IsWalked}
 use Rattle.aeth_explain.proofs.walks.walk_all.Given as goal
 
 -- No live path is among the lists over the senders' links so far, and their shortest cuts are put down.

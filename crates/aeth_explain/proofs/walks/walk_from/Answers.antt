@@ -1,15 +1,9 @@
 use Rattle.std.proofs.Common.{◌≡◌, ◌∙◌, ◌-◌, ◌++◌, [], ◌∷◌, List, ap, subst, sym}
-use Rattle.aeth_base.specs.Limits.{max_path_links}
-use Rattle.aeth_base.specs.declared.ids.LinkId.{LinkId}
-use Rattle.aeth_chip.specs.Chip.{IsNode}
-use Rattle.aeth_chip.specs.Paths.{to_in}
-use Rattle.aeth_chip.specs.declared.node.Node.TheVariants.{Ni}
+use Rattle.aeth_base.specs.{Limits.max_path_links, declared.ids.LinkId.LinkId}
+use Rattle.aeth_chip.specs.{Chip.IsNode, Paths.to_in, declared.node.Node.TheVariants.Ni}
 use Rattle.aeth_paths.proofs.StepLemmas.{link-below}
-use Rattle.aeth_explain.specs.Cuts.{begins_with}
-use Rattle.aeth_explain.specs.Fronts.{IsFront}
-use Rattle.aeth_explain.specs.Verdict.{is_covered}
-use Rattle.aeth_explain.proofs.FrontLemmas.{first-front}
-use Rattle.aeth_explain.proofs.StepLemmas.{walked-there}
+use Rattle.aeth_explain.specs.{Cuts.begins_with, Fronts.IsFront, Verdict.is_covered}
+use Rattle.aeth_explain.proofs.{FrontLemmas.first-front, StepLemmas.walked-there}
 use Rattle.aeth_explain.proofs.walks.walk_from.Goals as goal
 
 -- The link is one of the chip.

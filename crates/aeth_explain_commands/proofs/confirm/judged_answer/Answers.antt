@@ -1,10 +1,6 @@
-use Rattle.std.proofs.Common.{◌≡◌, List, subst}
-use Rattle.std.specs.Prelude.{IfOk, Vec}
-use Rattle.std.specs.Global.{Global}
+use Rattle.std.proofs.Common.{◌≡◌, List, subst, IfOk, Vec, Global}
 use Rattle.std.proofs.lemmas.Result.{err_from_is_err_and}
-use Rattle.aeth_answers.specs.Job.{Job}
-use Rattle.aeth_answers.specs.Places.{files_of}
-use Rattle.aeth_answers.specs.Task.{Task, ends}
+use Rattle.aeth_answers.specs.{Job.Job, Places.files_of, Task.Task, Task.ends}
 use Rattle.aeth_answers.proofs.FileLemmas.{Answers-ended, Answers-stopped, Answers-then}
 use Rattle.aeth_base.specs.declared.ids.LinkId.{LinkId}
 use Rattle.aeth_paths.specs.Trials.{TrialData}

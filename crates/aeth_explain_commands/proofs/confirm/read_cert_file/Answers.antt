@@ -1,9 +1,6 @@
-use Rattle.std.proofs.Common.{List, map}
-use Rattle.std.specs.Prelude.{ℕ, Vec, codes}
-use Rattle.std.specs.Global.{Global}
+use Rattle.std.proofs.Common.{List, map, ℕ, Vec, codes, Global}
 use Rattle.std.proofs.lemmas.Result.{err_from_is_err_and}
-use Rattle.aeth_answers.specs.Files.{judgement, text_file}
-use Rattle.aeth_answers.specs.Places.{files_of}
+use Rattle.aeth_answers.specs.{Files.judgement, Files.text_file, Places.files_of}
 use Rattle.aeth_answers.proofs.FileLemmas.{Judges-stopped, Judges-then}
 use Rattle.aeth_base.specs.declared.ids.LinkId.{LinkId}
 use Rattle.aeth_explain.specs.CutsText.{cuts_of_text, line_of}

@@ -1,5 +1,4 @@
-use Rattle.std.proofs.Common.{◌∙◌, ◌+◌, ℕ, Option, ap, arith, drop, length, refl, sym}
-use Rattle.std.specs.Prelude.{unwrap_or}
+use Rattle.std.proofs.Common.{◌∙◌, ◌+◌, ℕ, Option, ap, arith, drop, length, refl, sym, unwrap_or}
 use Rattle.std.proofs.lemmas.Option.{slice_get_read}
 use Rattle.aeth_answers.specs.Job.{Job}
 use Rattle.aeth_text.specs.Order.{line_after}

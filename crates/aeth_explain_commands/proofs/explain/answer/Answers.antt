@@ -1,7 +1,5 @@
 use Rattle.std.proofs.lemmas.Result.{err_from_is_err_and}
-use Rattle.aeth_answers.specs.Job.{done}
-use Rattle.aeth_answers.specs.Places.{files_of}
-use Rattle.aeth_answers.specs.Task.{Task, ends}
+use Rattle.aeth_answers.specs.{Job.done, Places.files_of, Task.Task, Task.ends}
 use Rattle.aeth_answers.proofs.FileLemmas.{Answers-done, Answers-stopped, Answers-then}
 use Rattle.aeth_files.specs.Files.{design_file}
 use Rattle.aeth_plan.specs.declared.design.Design.{Design}

@@ -1,7 +1,5 @@
-use Rattle.std.proofs.Common.{◌∙◌, ◌++◌, List, ap, arith, map, refl}
-use Rattle.std.specs.Prelude.{codes}
-use Rattle.aeth_explain.specs.Certificate.{cuts_of}
-use Rattle.aeth_explain.specs.CutsText.{cuts_text, line_of}
+use Rattle.std.proofs.Common.{◌∙◌, ◌++◌, List, ap, arith, map, refl, codes}
+use Rattle.aeth_explain.specs.{Certificate.cuts_of, CutsText.cuts_text, CutsText.line_of}
 use Rattle.aeth_group.specs.Members.{groups_of}
 use Rattle.aeth_paths.specs.Trials.{TrialData}
 use Rattle.aeth_text.specs.Spelling.{ended_line}

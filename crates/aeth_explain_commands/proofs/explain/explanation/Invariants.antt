@@ -1,6 +1,5 @@
 use Rattle.std.proofs.Common.{◌≡◌, ◌++◌, drop, map}
-use Rattle.aeth_explain.specs.Certificate.{cuts_of}
-use Rattle.aeth_explain.specs.CutsText.{blocks_lines, line_of}
+use Rattle.aeth_explain.specs.{Certificate.cuts_of, CutsText.blocks_lines, CutsText.line_of}
 use Rattle.aeth_group.specs.Members.{groups_of}
 use Rattle.aeth_text.specs.Spelling.{text_of_lines}
 use Rattle.aeth_explain_commands.specs.Explain.{AreBehind}

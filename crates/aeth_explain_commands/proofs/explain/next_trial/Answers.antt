@@ -1,8 +1,6 @@
-use Rattle.std.proofs.Common.{◌∙◌, ap, arith, length, subst, sym}
-use Rattle.std.specs.Prelude.{AllPairs}
+use Rattle.std.proofs.Common.{◌∙◌, ap, arith, length, subst, sym, AllPairs}
 use Rattle.aeth_alloc.proofs.EarlierLemmas.{trials-go-on}
-use Rattle.aeth_alloc.specs.Prices.{prices_of}
-use Rattle.aeth_alloc.specs.Trials.{GoesOn}
+use Rattle.aeth_alloc.specs.{Prices.prices_of, Trials.GoesOn}
 use Rattle.aeth_base.proofs.Members.{All-slice_get}
 use Rattle.aeth_group.specs.Members.{groups_of}
 use Rattle.aeth_paths.specs.Trials.{IsTrialOf}

@@ -1,6 +1,5 @@
 use Rattle.std.proofs.Common.{subst}
-use Rattle.aeth_explain.specs.Cuts.{HasCandidate}
-use Rattle.aeth_explain.specs.Masks.{TryJudgeData}
+use Rattle.aeth_explain.specs.{Cuts.HasCandidate, Masks.TryJudgeData}
 use Rattle.aeth_group.specs.Members.{GroupsData}
 use Rattle.aeth_explain_commands.proofs.explain.push_certificate.Goals as goal
 

@@ -1,6 +1,5 @@
 use Rattle.std.proofs.Common.{◌∙◌, Contains, List, ap, subst}
-use Rattle.aeth_alloc.specs.Prices.{prices_of}
-use Rattle.aeth_alloc.specs.Trials.{trials_of}
+use Rattle.aeth_alloc.specs.{Prices.prices_of, Trials.trials_of}
 use Rattle.aeth_alloc.proofs.TrialLemmas.{trials-lack}
 use Rattle.aeth_group.specs.Members.{GroupsData}
 use Rattle.aeth_paths.specs.Trials.{TrialData}

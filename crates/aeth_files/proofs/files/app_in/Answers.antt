@@ -1,7 +1,5 @@
-use Rattle.std.specs.Prelude.{codes}
-use Rattle.aeth_app.specs.App.{IsAppOf}
-use Rattle.aeth_app.specs.AppFile.{app_of}
-use Rattle.aeth_app.specs.Fault.{rule_of}
+use Rattle.std.proofs.Common.{codes}
+use Rattle.aeth_app.specs.{App.IsAppOf, AppFile.app_of, Fault.rule_of}
 use Rattle.aeth_answers.proofs.FileLemmas.{HandsOn-keeps, Judges-told}
 use Rattle.aeth_files.proofs.files.app_in.Goals as goal
 

@@ -1,6 +1,5 @@
-use Rattle.std.specs.Prelude.{codes}
-use Rattle.aeth_chip.specs.ChipFile.{chip_of}
-use Rattle.aeth_chip.specs.Faults.{rule_of}
+use Rattle.std.proofs.Common.{codes}
+use Rattle.aeth_chip.specs.{ChipFile.chip_of, Faults.rule_of}
 use Rattle.aeth_answers.proofs.FileLemmas.{Judges-told}
 use Rattle.aeth_files.proofs.files.chip_in.Goals as goal
 

@@ -1,8 +1,6 @@
-use Rattle.std.specs.Prelude.{codes}
+use Rattle.std.proofs.Common.{codes}
 use Rattle.aeth_group.specs.Members.{groups_of}
-use Rattle.aeth_plan.specs.Plan.{IsPlanOf}
-use Rattle.aeth_plan.specs.PlanText.{plan_of}
-use Rattle.aeth_plan.specs.Refusals.{rule_of}
+use Rattle.aeth_plan.specs.{Plan.IsPlanOf, PlanText.plan_of, Refusals.rule_of}
 use Rattle.aeth_answers.proofs.FileLemmas.{HandsOn-keeps, Judges-told}
 use Rattle.aeth_files.proofs.files.plan_in.Goals as goal
 

@@ -1,5 +1,4 @@
-use Rattle.std.specs.Prelude.{codes}
-use Rattle.std.proofs.lemmas.Result.{err_from_is_err_and}
+use Rattle.std.proofs.{Common.codes, lemmas.Result.err_from_is_err_and}
 use Rattle.aeth_group.specs.Members.{groups_of}
 use Rattle.aeth_plan.specs.PlanText.{plan_of}
 use Rattle.aeth_answers.specs.Places.{files_of}

@@ -1,6 +1,5 @@
 use Rattle.std.proofs.Common.{◌∙◌, refl, sym}
-use Rattle.aeth_answers.proofs.FileLemmas.{IsAnswer-not_granted}
-use Rattle.aeth_answers.proofs.TaskLemmas.{IsAfter-same}
+use Rattle.aeth_answers.proofs.{FileLemmas.IsAnswer-not_granted, TaskLemmas.IsAfter-same}
 use Rattle.aeth_plan.proofs.DesignLaws.{design_of}
 use Rattle.aeth_files.proofs.plans.accept_plan.Goals as goal
 

@@ -1,14 +1,10 @@
-use Rattle.std.proofs.Common.{refl}
-use Rattle.std.proofs.lemmas.Result.{err_from_is_err_and}
-use Rattle.aeth_plan.specs.Plan.{PlanData}
-use Rattle.aeth_plan.specs.declared.design.Planned.{Planned}
-use Rattle.aeth_answers.specs.Places.{files_of}
-use Rattle.aeth_answers.specs.Task.{Judging}
+use Rattle.std.proofs.{Common.refl, lemmas.Result.err_from_is_err_and}
+use Rattle.aeth_plan.specs.{Plan.PlanData, declared.design.Planned.Planned}
+use Rattle.aeth_answers.specs.{Places.files_of, Task.Judging}
 use Rattle.aeth_answers.proofs.FileLemmas.{Judges-made, Judges-stopped, Judges-then}
 use Rattle.aeth_chip.specs.Chip.{ChipData}
 use Rattle.aeth_app.specs.App.{AppData}
-use Rattle.aeth_files.specs.Files.{plan_file}
-use Rattle.aeth_files.specs.Plans.{accepted_plan}
+use Rattle.aeth_files.specs.{Files.plan_file, Plans.accepted_plan}
 use Rattle.aeth_files.proofs.plans.with_plan.Goals as goal
 
 -- A plan that was read is accepted.

@@ -1,11 +1,8 @@
-use Rattle.std.proofs.Common.{[], map, refl, sym}
-use Rattle.std.specs.Prelude.{codes}
+use Rattle.std.proofs.Common.{[], map, refl, sym, codes}
+use Rattle.std.proofs.lemmas.List.{length-map, Quantifiers.position-Some}
 use Rattle.std.specs.Str.{bytes_eq}
-use Rattle.std.proofs.lemmas.List.{length-map}
-use Rattle.std.proofs.lemmas.List.Quantifiers.{position-Some}
 use Rattle.aeth_files.specs.Uses.{unknown_use}
-use Rattle.aeth_answers.proofs.FileLemmas.{IsAnswer-refused}
-use Rattle.aeth_answers.proofs.TaskLemmas.{IsAfter-same}
+use Rattle.aeth_answers.proofs.{FileLemmas.IsAnswer-refused, TaskLemmas.IsAfter-same}
 use Rattle.aeth_files.proofs.uses.named_use.Goals as goal
 
 -- A use case has the name, and what comes next is left.

@@ -1,8 +1,6 @@
-use Rattle.std.proofs.Common.{◌∙◌, sym}
-use Rattle.std.proofs.lemmas.Bool.{false≢true}
+use Rattle.std.proofs.{Common.◌∙◌, Common.sym, lemmas.Bool.false≢true}
 use Rattle.aeth_group.proofs.MarkLemmas.{leading-mark, leading-skip, length-before}
-use Rattle.aeth_group.proofs.closing.lead_over.Goals.{else-marked}
-use Rattle.aeth_group.proofs.closing.lead_over.Goals.{else-marked-via-else-marked}
+use Rattle.aeth_group.proofs.closing.lead_over.Goals.{else-marked, else-marked-via-else-marked}
 use Rattle.aeth_group.proofs.closing.lead_over.Goals.{else-marked-via-then-marked+else-not-marked-2}
 use Rattle.aeth_group.proofs.closing.lead_over.Goals.{then-marked+then-not-marked-2}
 use Rattle.aeth_group.proofs.closing.lead_over.Goals as goal

@@ -1,5 +1,4 @@
-use Rattle.std.proofs.Common.{sym, arith}
-use Rattle.std.proofs.lemmas.List.FromFn.{map-range_with_len_more}
+use Rattle.std.proofs.{Common.sym, Common.arith, lemmas.List.FromFn.map-range_with_len_more}
 use Rattle.aeth_app.specs.App.{has_connection}
 use Rattle.aeth_group.proofs.groups.connections_of.Goals as goal
 

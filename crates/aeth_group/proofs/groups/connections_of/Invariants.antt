@@ -1,5 +1,4 @@
-use Rattle.std.proofs.Common.{◌≡◌, map}
-use Rattle.std.specs.List.{range_with_len}
+use Rattle.std.{proofs.Common.◌≡◌, proofs.Common.map, specs.List.range_with_len}
 use Rattle.aeth_app.specs.App.{has_connection}
 use Rattle.aeth_group.proofs.groups.connections_of.Given as goal
 

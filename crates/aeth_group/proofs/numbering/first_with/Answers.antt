@@ -1,6 +1,5 @@
 use Rattle.std.proofs.Common.{◌∙◌, sym, arith}
-use Rattle.aeth_group.specs.Marks.{marked}
-use Rattle.aeth_group.proofs.NumberingLemmas.{first_with_is}
+use Rattle.aeth_group.{specs.Marks.marked, proofs.NumberingLemmas.first_with_is}
 use Rattle.aeth_group.proofs.numbering.first_with.Goals as goal
 
 -- One that is marked.

@@ -1,7 +1,5 @@
-use Rattle.std.proofs.Common.{◌∙◌, sym}
-use Rattle.std.proofs.lemmas.Bool.{eq-eqb, ne_eqb}
-use Rattle.aeth_group.specs.Marks.{marked}
-use Rattle.aeth_group.specs.Numbering.{first_with, is_first}
+use Rattle.std.proofs.Common.{◌∙◌, sym, eq-eqb, ne_eqb}
+use Rattle.aeth_group.specs.{Marks.marked, Numbering.first_with, Numbering.is_first}
 use Rattle.aeth_group.proofs.Ranges.{counted-fails, counted-passes}
 use Rattle.aeth_group.proofs.numbering.firsts_below.Goals.{else-first_with-u, then-first_with-u}
 use Rattle.aeth_group.proofs.numbering.firsts_below.Goals as goal

@@ -1,6 +1,4 @@
-use Rattle.aeth_group.specs.Marks.{marked}
-use Rattle.aeth_group.specs.Numbering.{is_first}
-use Rattle.aeth_group.proofs.Ranges.{Counted}
+use Rattle.aeth_group.{specs.Marks.marked, specs.Numbering.is_first, proofs.Ranges.Counted}
 use Rattle.aeth_group.proofs.numbering.firsts_below.Given as goal
 
 -- Those so far are counted.

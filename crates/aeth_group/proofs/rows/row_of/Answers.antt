@@ -1,10 +1,8 @@
-use Rattle.std.proofs.Common.{◌∙◌, ◌++◌, ◌∷◌, [], Bool, sym, ap, eqb, ℕ, slice_get}
-use Rattle.std.proofs.lemmas.Bool.{eq-eqb, ne_eqb}
+use Rattle.std.proofs.Common.{◌∙◌, ◌++◌, ◌∷◌, [], Bool, sym, ap, eqb, ℕ, slice_get, eq-eqb, ne_eqb}
 use Rattle.aeth_group.specs.Members.{group_in}
 use Rattle.aeth_group.proofs.RowLemmas.{range-fails, range-passes}
+use Rattle.aeth_group.proofs.rows.row_of.Goals.{else-group_in-group, then-group_in-group+in_ok-push}
 use Rattle.aeth_group.proofs.rows.row_of.Goals as goal
-use Rattle.aeth_group.proofs.rows.row_of.Goals.{else-group_in-group}
-use Rattle.aeth_group.proofs.rows.row_of.Goals.{then-group_in-group+in_ok-push}
 
 -- One more use case.
 pub loop-u-preserved : goal.loop-u-preserved

@@ -1,6 +1,5 @@
 use Rattle.std.proofs.Common.{◌≡◌, Some, length, slice_get, ℕ}
-use Rattle.std.specs.declared.vec.Vec.{Vec}
-use Rattle.std.specs.declared.alloc.Global.{Global}
+use Rattle.std.specs.declared.{vec.Vec.Vec, alloc.Global.Global}
 use Rattle.aeth_group.specs.Rows.{uses_among}
 use Rattle.aeth_group.proofs.rows.rows_of.Given as goal
 

@@ -1,6 +1,5 @@
-use Rattle.std.specs.Prelude.{All, take}
-use Rattle.aeth_router.specs.Rows.{IsRowFor}
-use Rattle.aeth_router.specs.TableRouter.{new_table_router}
+use Rattle.std.proofs.Common.{All, take}
+use Rattle.aeth_router.specs.{Rows.IsRowFor, TableRouter.new_table_router}
 use Rattle.aeth_hardware_tests.proofs.pair.do_fit.Given as goal
 
 -- Each row so far is one that a router can have.

@@ -1,7 +1,6 @@
 use Rattle.std.proofs.Common.{◌∙◌, ap, map}
 use Rattle.aeth_components.proofs.KindLemmas.{frames-kind}
-use Rattle.aeth_components.specs.Frames.{frame_of}
-use Rattle.aeth_components.specs.declared.making.RouterKind.TheVariants.{ByTable}
+use Rattle.aeth_components.specs.{Frames.frame_of, declared.making.RouterKind.TheVariants.ByTable}
 use Rattle.aeth_hardware_tests.proofs.pair.routed.Goals as goal
 
 -- Routers of either kind have the same wires.

@@ -1,6 +1,5 @@
 use Rattle.std.proofs.Common.{refl}
-use Rattle.aeth_router.proofs.RowLemmas.{with_table-kept}
-use Rattle.aeth_router.specs.TableRouter.{new_table_router}
+use Rattle.aeth_router.{proofs.RowLemmas.with_table-kept, specs.TableRouter.new_table_router}
 use Rattle.aeth_hardware_tests.proofs.RowLemmas.{fit-router}
 use Rattle.aeth_hardware_tests.proofs.pair.table_router.Goals as goal
 

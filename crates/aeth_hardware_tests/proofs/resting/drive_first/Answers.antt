@@ -1,6 +1,5 @@
 use Rattle.std.proofs.Common.{[], ◌∷◌, subst, sym}
-use Rattle.aeth_clocked.specs.Order.{AreChosen}
-use Rattle.aeth_clocked.specs.Resting.{RestsDrive}
+use Rattle.aeth_clocked.specs.{Order.AreChosen, Resting.RestsDrive}
 use Rattle.aeth_router.specs.Stage.{stage_after, stage_emit, stage_outputs}
 use Rattle.aeth_hardware_tests.proofs.PairLemmas.{AreChosen-first, others-second}
 use Rattle.aeth_hardware_tests.proofs.resting.drive_first.Goals as goal

@@ -1,6 +1,5 @@
 use Rattle.std.proofs.Common.{[], ◌∷◌, subst, sym}
-use Rattle.aeth_clocked.specs.Order.{AreChosen}
-use Rattle.aeth_clocked.specs.Resting.{RestsLatch}
+use Rattle.aeth_clocked.specs.{Order.AreChosen, Resting.RestsLatch}
 use Rattle.aeth_router.specs.Stage.{stage_absorb}
 use Rattle.aeth_hardware_tests.proofs.PairLemmas.{AreChosen-first, others-second}
 use Rattle.aeth_hardware_tests.proofs.resting.latch_first.Goals as goal

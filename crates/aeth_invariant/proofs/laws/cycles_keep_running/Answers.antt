@@ -1,8 +1,6 @@
 use Rattle.aeth_components.specs.Changes.{switched}
-use Rattle.aeth_invariant.proofs.Refilling.{handed-rested}
-use Rattle.aeth_invariant.proofs.Running.{prepared, runs-on}
-use Rattle.aeth_invariant.specs.Served.{handed_after}
-use Rattle.aeth_invariant.specs.View.{net_of}
+use Rattle.aeth_invariant.proofs.{Refilling.handed-rested, Running.prepared, Running.runs-on}
+use Rattle.aeth_invariant.specs.{Served.handed_after, View.net_of}
 use Rattle.aeth_invariant.proofs.laws.cycles_keep_running.Goals as goal
 
 -- A prepared network does the fabric's cycle.

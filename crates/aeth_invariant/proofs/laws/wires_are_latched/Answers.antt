@@ -1,5 +1,4 @@
-use Rattle.aeth_invariant.proofs.Arriving.{latches}
-use Rattle.aeth_invariant.proofs.Holding.{latched-absorb}
+use Rattle.aeth_invariant.proofs.{Arriving.latches, Holding.latched-absorb}
 use Rattle.aeth_invariant.proofs.laws.wires_are_latched.Goals as goal
 
 -- Each component takes up its own.

@@ -1,7 +1,6 @@
 use Rattle.std.proofs.Common.{◌≡◌, ◌≤◌, ◌+◌, ◌-◌, ℕ, true, List, Some, length}
 use Rattle.aeth_io.proofs.Reading.{IsReadSoFar}
-use Rattle.aeth_io.specs.Causes.{IsFaultless}
-use Rattle.aeth_io.specs.Limits.{max_file_bytes}
+use Rattle.aeth_io.specs.{Causes.IsFaultless, Limits.max_file_bytes}
 use Rattle.aeth_io.proofs.shelf.read_all.Given as goal
 
 abbrev pub invariant-loop-chunk : goal.invariant-loop-chunk

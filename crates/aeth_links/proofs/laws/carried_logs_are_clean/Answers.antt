@@ -1,7 +1,6 @@
 use Rattle.aeth_accepted.specs.Inputs.{run_of}
 use Rattle.aeth_reconf.specs.Timeline.{timeline_of}
-use Rattle.aeth_links.proofs.CleanLemmas.{log-clean}
-use Rattle.aeth_links.proofs.FlowLemmas.{flows-fit}
+use Rattle.aeth_links.proofs.{CleanLemmas.log-clean, FlowLemmas.flows-fit}
 use Rattle.aeth_links.proofs.laws.carried_logs_are_clean.Goals as goal
 
 -- Each flit is one of the session for which its link is reserved, and goes from link to link.

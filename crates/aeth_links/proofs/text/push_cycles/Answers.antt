@@ -1,15 +1,13 @@
 use Rattle.std.proofs.Common.{◌≡◌, ◌+◌, ◌++◌, ◌∙◌, List, ap, arith, length, refl, subst, sym}
-use Rattle.std.proofs.lemmas.List.{append-nil}
+use Rattle.std.proofs.Common.{append-nil}
 use Rattle.aeth_audit.specs.declared.row.LinkRow.{LinkRow}
 use Rattle.aeth_accepted.specs.Inputs.{run_of}
 use Rattle.aeth_chip.specs.Chip.{ChipData}
 use Rattle.aeth_network.specs.Runs.{AreWiresOf}
-use Rattle.aeth_running.proofs.Played.{stepped-time}
-use Rattle.aeth_running.specs.Network.{NetworkState}
-use Rattle.aeth_links.specs.Carried.{lines_of}
-use Rattle.aeth_links.specs.Seen.{rows_seen}
-use Rattle.aeth_links.proofs.NetworkLemmas.{cycles-of, rows_before, rows_before-next}
-use Rattle.aeth_links.proofs.NetworkLemmas.{seen-carried, wires-enough}
+use Rattle.aeth_running.{proofs.Played.stepped-time, specs.Network.NetworkState}
+use Rattle.aeth_links.specs.{Carried.lines_of, Seen.rows_seen}
+use Rattle.aeth_links.proofs.NetworkLemmas.{cycles-of, rows_before, rows_before-next, seen-carried}
+use Rattle.aeth_links.proofs.NetworkLemmas.{wires-enough}
 use Rattle.aeth_links.proofs.text.push_cycles.Goals as goal
 
 -- No cycle is done.

@@ -1,8 +1,7 @@
 use Rattle.std.proofs.Common.{◌≡◌, ◌≤◌, ◌++◌, length}
 use Rattle.aeth_accepted.specs.Inputs.{run_of}
 use Rattle.aeth_network.specs.Runs.{IsNetworkOf}
-use Rattle.aeth_links.specs.Carried.{lines_of}
-use Rattle.aeth_links.proofs.NetworkLemmas.{rows_before}
+use Rattle.aeth_links.{specs.Carried.lines_of, proofs.NetworkLemmas.rows_before}
 use Rattle.aeth_links.proofs.text.push_cycles.Given as goal
 
 -- The lines of the cycles so far stand behind the text, and the network has done them.

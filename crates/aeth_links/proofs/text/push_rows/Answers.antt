@@ -1,7 +1,6 @@
 use Rattle.std.proofs.Common.{◌++◌, ◌∙◌, ℕ, List, ap, arith, sym}
 use Rattle.aeth_audit.specs.declared.row.LinkRow.{LinkRow}
-use Rattle.aeth_links.specs.Carried.{lines_of}
-use Rattle.aeth_links.specs.Seen.{rows_from}
+use Rattle.aeth_links.specs.{Carried.lines_of, Seen.rows_from}
 use Rattle.aeth_links.proofs.SeenLemmas.{lines-end, lines-next, rows_from-all, rows_from-until}
 use Rattle.aeth_links.proofs.text.push_rows.Goals as goal
 

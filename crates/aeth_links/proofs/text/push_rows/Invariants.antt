@@ -1,6 +1,5 @@
 use Rattle.std.proofs.Common.{◌≡◌, ◌≤◌, ◌-◌, ◌++◌, length}
-use Rattle.aeth_links.specs.Carried.{lines_of}
-use Rattle.aeth_links.specs.Seen.{rows_from}
+use Rattle.aeth_links.specs.{Carried.lines_of, Seen.rows_from}
 use Rattle.aeth_links.proofs.text.push_rows.Given as goal
 
 -- The lines from the next wire with a flit on are still to be put behind the text.

@@ -1,5 +1,4 @@
-use Rattle.std.proofs.Common.{◌≡◌, ◌≤◌, ◌++◌, map, take}
-use Rattle.std.specs.Prelude.{vec_capacity}
+use Rattle.std.proofs.Common.{◌≡◌, ◌≤◌, ◌++◌, map, take, vec_capacity}
 use Rattle.std.specs.List.{slice_index_or}
 use Rattle.aeth_trace.specs.Channels.{channel_number}
 use Rattle.aeth_stimuli.specs.Loaded.{no_lane}

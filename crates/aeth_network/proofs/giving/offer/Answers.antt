@@ -2,10 +2,9 @@ use Rattle.std.proofs.Common.{◌∙◌, ◌<◌, ◌∷◌, [], ap, arith, leng
 use Rattle.std.proofs.lemmas.List.Elements.{All-weaker}
 use Rattle.aeth_components.specs.Components.{ComponentsState}
 use Rattle.aeth_stimuli.specs.Stimuli.{Offer}
-use Rattle.aeth_network.specs.Fits.{AreFit}
+use Rattle.aeth_network.{specs.Fits.AreFit, proofs.FitLemmas.AreFit-next}
+use Rattle.aeth_network.{proofs.FitLemmas.HaveCounts-next, proofs.LaneCounts.lanes-accepted}
 use Rattle.aeth_running.proofs.OutsideTold.{length-all_outside}
-use Rattle.aeth_network.proofs.FitLemmas.{AreFit-next, HaveCounts-next}
-use Rattle.aeth_network.proofs.LaneCounts.{lanes-accepted}
 use Rattle.aeth_network.proofs.giving.offer.Goals as goal
 
 -- There are as many channels as before.

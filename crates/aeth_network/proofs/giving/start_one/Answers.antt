@@ -1,6 +1,5 @@
 use Rattle.std.proofs.Common.{◌∙◌, ◌<◌, List, ap, arith, get_or, length, set}
-use Rattle.aeth_components.specs.Lanes.{with_lane}
-use Rattle.aeth_components.specs.declared.lane.Lane.{Lane}
+use Rattle.aeth_components.specs.{Lanes.with_lane, declared.lane.Lane.Lane}
 use Rattle.aeth_components.proofs.LaneLemmas.{set-with_lane}
 use Rattle.aeth_network.proofs.Lanes.{empty}
 use Rattle.aeth_network.proofs.giving.start_one.Goals as goal

@@ -1,8 +1,8 @@
 use Rattle.std.proofs.Common.{◌∙◌, arith}
 use Rattle.aeth_network.proofs.Adding.{added-more, added-none, added-past}
-use Rattle.aeth_network.proofs.logging.add_sessions.Goals as goal
 use Rattle.aeth_network.proofs.logging.add_sessions.Goals.{else-number-channels}
 use Rattle.aeth_network.proofs.logging.add_sessions.Goals.{then-number-channels+in_ok-add_session}
+use Rattle.aeth_network.proofs.logging.add_sessions.Goals as goal
 
 -- None is added.
 pub loop-going-init : goal.loop-going-init

@@ -1,6 +1,5 @@
 use Rattle.std.proofs.Common.{◌≡◌, take}
-use Rattle.aeth_network.specs.ByNumber.{each_by}
-use Rattle.aeth_network.specs.Records.{added_by}
+use Rattle.aeth_network.specs.{ByNumber.each_by, Records.added_by}
 use Rattle.aeth_network.proofs.logging.add_sessions.Given as goal
 
 -- The sessions so far are added.

@@ -1,8 +1,6 @@
-use Rattle.std.proofs.Common.{[], map}
-use Rattle.std.proofs.lemmas.List.{append_assoc, map-append}
+use Rattle.std.proofs.{Common.[], Common.map, Common.append_assoc, lemmas.List.map-append}
 use Rattle.aeth_report.specs.Channels.{channels_of, channels_with}
-use Rattle.aeth_network.specs.Records.{channel_from}
-use Rattle.aeth_network.proofs.RowLemmas.{channels_of-more}
+use Rattle.aeth_network.{specs.Records.channel_from, proofs.RowLemmas.channels_of-more}
 use Rattle.aeth_network.proofs.logging.first_channels.Goals as goal
 
 -- The channels of one connection more.

@@ -1,9 +1,8 @@
 use Rattle.std.proofs.Common.{◌≡◌, ◌∙◌, ap, arith, length, map, refl, replicate}
-use Rattle.std.specs.Vec.{with_items}
 use Rattle.std.proofs.lemmas.List.{with_items_is}
+use Rattle.std.specs.Vec.{with_items}
 use Rattle.aeth_report.specs.Channels.{channels_of}
-use Rattle.aeth_network.specs.ByNumber.{each_by}
-use Rattle.aeth_network.specs.Records.{added_by, channel_from}
+use Rattle.aeth_network.specs.{ByNumber.each_by, Records.added_by, Records.channel_from}
 use Rattle.aeth_network.proofs.Adding.{added-all}
 use Rattle.aeth_network.proofs.logging.first_log.Goals as goal
 

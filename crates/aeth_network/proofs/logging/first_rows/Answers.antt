@@ -1,15 +1,10 @@
 use Rattle.std.proofs.Common.{◌≡◌, ◌∙◌, ◌+◌, ◌≤◌, Some, ap, arith, map, slice_get, sym}
-use Rattle.std.proofs.lemmas.List.Elements.{All-filter}
-use Rattle.std.proofs.lemmas.List.FromFn.{map-range_with_len_more}
+use Rattle.std.proofs.lemmas.List.{Elements.All-filter, FromFn.map-range_with_len_more}
 use Rattle.std.proofs.lemmas.Option.{get_or_from_slice_get, slice_get_within}
 use Rattle.aeth_base.specs.Limits.{max_cycles}
-use Rattle.aeth_server.specs.ChannelShape.{shape_of}
-use Rattle.aeth_server.specs.FinishTimes.{due_cycle}
-use Rattle.aeth_server.specs.Progress.{Progress}
-use Rattle.aeth_server.specs.Shape.{channel_latency}
-use Rattle.aeth_trace.specs.Channels.{is_channel}
-use Rattle.aeth_trace.specs.Words.{words_on}
-use Rattle.aeth_trace.specs.declared.words.WordRow.{WordRow}
+use Rattle.aeth_server.specs.{ChannelShape.shape_of, FinishTimes.due_cycle, Progress.Progress}
+use Rattle.aeth_server.specs.{Shape.channel_latency}
+use Rattle.aeth_trace.specs.{Channels.is_channel, Words.words_on, declared.words.WordRow.WordRow}
 use Rattle.aeth_running.specs.FirstLog.{first_row, rows_of}
 use Rattle.aeth_schedule.proofs.Places.{on-few}
 use Rattle.aeth_network.proofs.RowLemmas.{due-more, get-behind, index-map}

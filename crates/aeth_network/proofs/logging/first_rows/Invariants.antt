@@ -1,8 +1,5 @@
-use Rattle.std.proofs.Common.{◌≡◌, map}
-use Rattle.std.specs.List.{range_with_len}
-use Rattle.aeth_server.specs.ChannelShape.{shape_of}
-use Rattle.aeth_server.specs.Progress.{progress_of}
-use Rattle.aeth_server.specs.Shape.{channel_latency}
+use Rattle.std.{proofs.Common.◌≡◌, proofs.Common.map, specs.List.range_with_len}
+use Rattle.aeth_server.specs.{ChannelShape.shape_of, Progress.progress_of, Shape.channel_latency}
 use Rattle.aeth_running.specs.FirstLog.{first_row, rows_of}
 use Rattle.aeth_network.proofs.logging.first_rows.Given as goal
 

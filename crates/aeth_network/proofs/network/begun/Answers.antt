@@ -1,5 +1,4 @@
-use Rattle.std.proofs.Common.{◌≡◌, refl, subst, sym}
-use Rattle.std.specs.Prelude.{vec_capacity}
+use Rattle.std.proofs.Common.{◌≡◌, refl, subst, sym, vec_capacity}
 use Rattle.aeth_running.specs.Network.{first_network}
 use Rattle.aeth_network.specs.Cursors.{routing_with, stimuli_with}
 use Rattle.aeth_network.specs.Networks.{IsNetwork, network_of}

@@ -1,9 +1,6 @@
-use Rattle.std.proofs.Common.{◌≡◌, ◌∙◌, ap}
-use Rattle.std.proofs.lemmas.Result.{IfOk-weaker}
+use Rattle.std.proofs.{Common.◌≡◌, Common.◌∙◌, Common.ap, lemmas.Result.IfOk-weaker}
 use Rattle.aeth_running.specs.Network.{NetworkState, first_network}
-use Rattle.aeth_network.specs.Cursors.{routing_with}
-use Rattle.aeth_network.specs.Routes.{routing_in}
-use Rattle.aeth_network.specs.Runs.{IsNetworkOf}
+use Rattle.aeth_network.specs.{Cursors.routing_with, Routes.routing_in, Runs.IsNetworkOf}
 use Rattle.aeth_network.proofs.Playing.{first-of}
 use Rattle.aeth_network.proofs.network.with_routes.Goals as goal
 

@@ -1,6 +1,5 @@
 use Rattle.std.proofs.Common.{◌∙◌, ap, refl}
-use Rattle.aeth_network.proofs.Passed.{passed-past, passed-test}
-use Rattle.aeth_network.proofs.PullLemmas.{cycle_of}
+use Rattle.aeth_network.proofs.{Passed.passed-past, Passed.passed-test, PullLemmas.cycle_of}
 use Rattle.aeth_network.proofs.next.is_before.Goals as goal
 
 -- The row is there, and lies before the cycle as its own is below it.

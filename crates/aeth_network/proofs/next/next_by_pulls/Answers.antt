@@ -1,7 +1,7 @@
-use Rattle.std.proofs.Common.{◌≡◌, ◌≤◌, ◌<◌, ℕ, List, Some, arith, inl, inr, length, slice_get, subst}
+use Rattle.std.proofs.Common.{◌≡◌, ◌≤◌, ◌<◌, ℕ, List, Some, arith, inl, inr, length, slice_get}
+use Rattle.std.proofs.Common.{subst}
 use Rattle.std.proofs.lemmas.Option.{slice_get_within}
-use Rattle.aeth_components.specs.Busy.{TakesNothing}
-use Rattle.aeth_components.specs.declared.lane.Lane.{Lane}
+use Rattle.aeth_components.specs.{Busy.TakesNothing, declared.lane.Lane.Lane}
 use Rattle.aeth_stimuli.specs.Stimuli.{Take}
 use Rattle.aeth_network.specs.Next.{HasAsker, HasTaker, IsFirstKnown}
 use Rattle.aeth_network.proofs.AskerLemmas.{IsTaker, asker-at}

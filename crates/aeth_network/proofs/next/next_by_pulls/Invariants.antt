@@ -1,7 +1,6 @@
 use Rattle.std.proofs.Common.{◌-◌, length}
 use Rattle.aeth_network.specs.Next.{HasAsker, IsFirstKnown}
-use Rattle.aeth_network.proofs.AskerLemmas.{IsTaker}
-use Rattle.aeth_network.proofs.KnownFirsts.{HasSeen}
+use Rattle.aeth_network.proofs.{AskerLemmas.IsTaker, KnownFirsts.HasSeen}
 use Rattle.aeth_network.proofs.next.next_by_pulls.Given as goal
 
 -- No channel so far takes some earlier of those that do as they stand.

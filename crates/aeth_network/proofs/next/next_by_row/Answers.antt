@@ -3,8 +3,7 @@ use Rattle.std.proofs.lemmas.Option.{get_or_from_slice_get}
 use Rattle.aeth_components.specs.declared.lane.Lane.{Lane}
 use Rattle.aeth_stimuli.specs.Stimuli.{Take}
 use Rattle.aeth_network.specs.Next.{AsksIn}
-use Rattle.aeth_network.proofs.AskerLemmas.{asker-at}
-use Rattle.aeth_network.proofs.KnownFirsts.{known-fewer, known-of}
+use Rattle.aeth_network.proofs.{AskerLemmas.asker-at, KnownFirsts.known-fewer, KnownFirsts.known-of}
 use Rattle.aeth_network.proofs.next.next_by_row.Goals as goal
 
 -- The cycle of the channel.

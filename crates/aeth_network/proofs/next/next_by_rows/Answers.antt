@@ -1,9 +1,8 @@
 use Rattle.std.proofs.Common.{◌+◌, arith, subst, sym}
 use Rattle.aeth_stimuli.specs.Stimuli.{Take}
 use Rattle.aeth_network.specs.Next.{IsAskedBy}
-use Rattle.aeth_network.proofs.KnownFirsts.{known-fewer, known-more}
-use Rattle.aeth_network.proofs.Passed.{passed-left, passed-of, past-test}
-use Rattle.aeth_network.proofs.PullLemmas.{cycle_of}
+use Rattle.aeth_network.proofs.{KnownFirsts.known-fewer, KnownFirsts.known-more, Passed.passed-left}
+use Rattle.aeth_network.proofs.{Passed.passed-of, Passed.past-test, PullLemmas.cycle_of}
 use Rattle.aeth_network.proofs.next.next_by_rows.Goals as goal
 
 -- The row is there.

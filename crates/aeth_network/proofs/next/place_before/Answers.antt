@@ -1,6 +1,5 @@
 use Rattle.std.proofs.Common.{arith}
-use Rattle.aeth_network.proofs.Passed.{passed-few, passed-left}
-use Rattle.aeth_network.proofs.PullLemmas.{cycle_of}
+use Rattle.aeth_network.proofs.{Passed.passed-few, Passed.passed-left, PullLemmas.cycle_of}
 use Rattle.aeth_network.proofs.next.place_before.Goals as goal
 
 -- One row less is left.

@@ -1,6 +1,5 @@
 use Rattle.std.proofs.Common.{◌≤◌, ◌-◌, length}
-use Rattle.aeth_network.specs.Behind.{passed}
-use Rattle.aeth_network.proofs.PullLemmas.{cycle_of}
+use Rattle.aeth_network.{specs.Behind.passed, proofs.PullLemmas.cycle_of}
 use Rattle.aeth_network.proofs.next.place_before.Given as goal
 
 -- The place is not behind the rows before the cycle.

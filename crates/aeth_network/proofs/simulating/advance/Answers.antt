@@ -1,6 +1,5 @@
 use Rattle.std.proofs.Common.{◌∙◌, ap, arith}
-use Rattle.aeth_running.specs.Network.{NetworkState}
-use Rattle.aeth_running.proofs.Played.{stepped-time}
+use Rattle.aeth_running.{specs.Network.NetworkState, proofs.Played.stepped-time}
 use Rattle.aeth_network.proofs.CarriedLemmas.{counts-on}
 use Rattle.aeth_network.proofs.Skipped.{played-behind, skipped-cycles, skipped-time}
 use Rattle.aeth_network.proofs.simulating.advance.Goals as goal

@@ -1,8 +1,7 @@
 use Rattle.std.proofs.Common.{◌≡◌, ◌≤◌, ◌+◌, ◌-◌, ◌*◌, length}
 use Rattle.aeth_components.specs.Turns.{flits_on}
-use Rattle.aeth_running.specs.Network.{played}
+use Rattle.aeth_running.specs.{Network.played, Quiet.IsNextBusy}
 use Rattle.aeth_network.specs.Carried.{carried_in}
-use Rattle.aeth_running.specs.Quiet.{IsNextBusy}
 use Rattle.aeth_network.proofs.simulating.simulate_counted.Given as goal
 
 -- The cycles so far are played, and the next busy one is known.

@@ -1,19 +1,13 @@
 use Rattle.std.proofs.Common.{◌≡◌, ◌∙◌, All, List, [], ap, length, refl, subst, sym}
 use Rattle.aeth_router.specs.declared.part.Part.{Part}
-use Rattle.aeth_components.specs.Changes.{switched}
-use Rattle.aeth_components.specs.Components.{ComponentsState}
-use Rattle.aeth_components.specs.Entering.{TakesRows}
-use Rattle.aeth_components.specs.Making.{new_parts}
-use Rattle.aeth_schedule.specs.Rooms.{rooms_of}
-use Rattle.aeth_schedule.specs.Schedule.{ScheduleData}
-use Rattle.aeth_schedule.specs.Switching.{loaded_of}
+use Rattle.aeth_components.specs.{Changes.switched, Components.ComponentsState, Entering.TakesRows}
+use Rattle.aeth_components.specs.{Making.new_parts}
+use Rattle.aeth_schedule.specs.{Rooms.rooms_of, Schedule.ScheduleData, Switching.loaded_of}
 use Rattle.aeth_running.proofs.PlayedTables.{first-fit, tables-take}
 use Rattle.aeth_running.proofs.RouterTables.{tables-loaded}
 use Rattle.aeth_running.specs.Routing.{entered_first, first_rows, kind_of}
-use Rattle.aeth_stimuli.specs.Loaded.{loaded_as}
-use Rattle.aeth_stimuli.proofs.FittingEvents.{rooms-counted}
-use Rattle.aeth_network.specs.Routes.{routing_in}
-use Rattle.aeth_network.proofs.FirstNetwork.{loaded-doable}
+use Rattle.aeth_stimuli.{specs.Loaded.loaded_as, proofs.FittingEvents.rooms-counted}
+use Rattle.aeth_network.{specs.Routes.routing_in, proofs.FirstNetwork.loaded-doable}
 use Rattle.aeth_network.proofs.state.routed_components.Goals as goal
 
 -- There is a room for each queue.

@@ -1,11 +1,8 @@
 use Rattle.std.proofs.Common.{All, List, ap, subst, sym, take}
 use Rattle.std.specs.List.{slice_index_or}
-use Rattle.aeth_router.specs.declared.part.Part.{Part}
-use Rattle.aeth_router.specs.declared.router_row.RouterRow.{RouterRow}
-use Rattle.aeth_components.specs.Components.{ComponentsState}
-use Rattle.aeth_components.specs.Entering.{TakesRows}
-use Rattle.aeth_network.specs.Routes.{rows_in}
-use Rattle.aeth_network.specs.declared.tables.EnteredUse.{EnteredUse}
+use Rattle.aeth_router.specs.declared.{part.Part.Part, router_row.RouterRow.RouterRow}
+use Rattle.aeth_components.specs.{Components.ComponentsState, Entering.TakesRows}
+use Rattle.aeth_network.specs.{Routes.rows_in, declared.tables.EnteredUse.EnteredUse}
 use Rattle.aeth_network.proofs.Enterings.{takes-still}
 use Rattle.aeth_network.proofs.tables.enter_uses.Goals as goal
 

@@ -1,5 +1,4 @@
-use Rattle.std.proofs.Common.{◌≡◌, ◌≤◌, nat_lt, take}
-use Rattle.std.specs.Prelude.{count_by}
+use Rattle.std.proofs.Common.{◌≡◌, ◌≤◌, nat_lt, take, count_by}
 use Rattle.aeth_network.proofs.telling.count_below.Given as goal
 
 -- How many so far.

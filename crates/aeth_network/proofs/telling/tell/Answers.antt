@@ -1,9 +1,8 @@
 use Rattle.std.proofs.Common.{◌≡◌, ◌∙◌, ap, arith, length, refl}
-use Rattle.std.specs.Vec.{with_items}
 use Rattle.std.proofs.lemmas.List.{with_items_is}
+use Rattle.std.specs.Vec.{with_items}
 use Rattle.aeth_report.specs.Log.{LogData}
-use Rattle.aeth_network.specs.Telling.{channels_by}
-use Rattle.aeth_network.proofs.TellingLemmas.{told-all}
+use Rattle.aeth_network.{specs.Telling.channels_by, proofs.TellingLemmas.told-all}
 use Rattle.aeth_network.proofs.telling.tell.Goals as goal
 
 -- Its channels are told, and its flits.

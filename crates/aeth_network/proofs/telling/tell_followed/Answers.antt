@@ -1,9 +1,10 @@
 use Rattle.std.proofs.Common.{◌∙◌, arith}
 use Rattle.aeth_network.proofs.ByNumberLemmas.{replicate-each}
-use Rattle.aeth_network.proofs.Followed.{channel-more, channels-whole, count-few, count-more, counts-whole}
-use Rattle.aeth_network.proofs.Followed.{channels-past, counts-past, followed-none}
+use Rattle.aeth_network.proofs.Followed.{channel-more, channels-whole, count-few, count-more}
+use Rattle.aeth_network.proofs.Followed.{counts-whole, channels-past, counts-past, followed-none}
+use Rattle.aeth_network.proofs.telling.tell_followed.Goals.{then-number-channels}
+use Rattle.aeth_network.proofs.telling.tell_followed.Goals.{else-number-channels}
 use Rattle.aeth_network.proofs.telling.tell_followed.Goals as goal
-use Rattle.aeth_network.proofs.telling.tell_followed.Goals.{then-number-channels, else-number-channels}
 
 -- None has gone.
 pub loop-place-init : goal.loop-place-init

@@ -1,6 +1,5 @@
 use Rattle.std.proofs.Common.{◌≡◌, take}
-use Rattle.aeth_network.specs.ByNumber.{each_by}
-use Rattle.aeth_network.specs.Telling.{followed_by, gone_by}
+use Rattle.aeth_network.specs.{ByNumber.each_by, Telling.followed_by, Telling.gone_by}
 use Rattle.aeth_network.proofs.telling.tell_followed.Given as goal
 
 -- The sessions so far are counted, and told but for the last of each channel.

@@ -3,8 +3,7 @@ use Rattle.std.proofs.lemmas.List.{get_or_default}
 use Rattle.aeth_components.specs.declared.lane.Lane.{Lane}
 use Rattle.aeth_stimuli.specs.Loaded.{no_lane}
 use Rattle.aeth_network.specs.Telling.{ended_with, last_by}
-use Rattle.aeth_network.proofs.ByNumberLemmas.{each-next}
-use Rattle.aeth_network.proofs.Lanes.{empty}
+use Rattle.aeth_network.proofs.{ByNumberLemmas.each-next, Lanes.empty}
 use Rattle.aeth_network.proofs.telling.tell_last.Goals as goal
 
 -- One channel more is told.

@@ -1,6 +1,5 @@
 use Rattle.std.proofs.Common.{◌≡◌, ◌++◌, drop, take}
-use Rattle.aeth_network.specs.ByNumber.{each_by}
-use Rattle.aeth_network.specs.Telling.{last_by}
+use Rattle.aeth_network.specs.{ByNumber.each_by, Telling.last_by}
 use Rattle.aeth_network.proofs.telling.tell_last.Given as goal
 
 -- The channels so far are told.

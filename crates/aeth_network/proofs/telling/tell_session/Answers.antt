@@ -1,6 +1,6 @@
 use Rattle.std.proofs.Common.{◌≡◌, ◌∙◌, List, ap, arith, drop, length, refl, take}
-use Rattle.std.specs.Vec.{with_items}
 use Rattle.std.proofs.lemmas.List.{take_rest, with_items_is}
+use Rattle.std.specs.Vec.{with_items}
 use Rattle.aeth_report.specs.declared.log.Landing.{Landing}
 use Rattle.aeth_running.specs.Told.{rows_told}
 use Rattle.aeth_network.proofs.telling.tell_session.Goals as goal

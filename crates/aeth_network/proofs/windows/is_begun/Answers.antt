@@ -1,7 +1,6 @@
 use Rattle.std.proofs.Common.{get_or, refl}
 use Rattle.aeth_schedule.specs.declared.windows.Window.{Window}
-use Rattle.aeth_network.proofs.Passed.{passed-past, passed-test}
-use Rattle.aeth_network.proofs.WindowLemmas.{begin_of}
+use Rattle.aeth_network.proofs.{Passed.passed-past, Passed.passed-test, WindowLemmas.begin_of}
 use Rattle.aeth_network.proofs.windows.is_begun.Goals as goal
 
 -- The window is there, and begins before the cycle as its place lies before.

@@ -1,8 +1,6 @@
 use Rattle.std.proofs.Common.{◌≡◌, ◌≤◌, arith, get_or, subst, sym}
-use Rattle.std.proofs.lemmas.Bool.Decides.{nat_tests}
-use Rattle.std.proofs.lemmas.Option.{get_or_from_slice_get}
-use Rattle.aeth_schedule.specs.Windows.{IsWithin}
-use Rattle.aeth_schedule.specs.declared.windows.Window.{Window}
+use Rattle.std.proofs.lemmas.{Bool.Decides.nat_tests, Option.get_or_from_slice_get}
+use Rattle.aeth_schedule.specs.{Windows.IsWithin, declared.windows.Window.Window}
 use Rattle.aeth_network.proofs.WindowLemmas.{within-to}
 use Rattle.aeth_network.proofs.windows.is_over.Goals as goal
 

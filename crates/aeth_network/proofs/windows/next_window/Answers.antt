@@ -1,8 +1,6 @@
 use Rattle.std.proofs.Common.{◌<◌, ◌+◌, ℕ, List, arith, get_or, inl, inr, length}
-use Rattle.std.proofs.lemmas.Bool.{cases_lt}
-use Rattle.std.proofs.lemmas.Option.{slice_get-get_or}
-use Rattle.aeth_schedule.specs.Windows.{IsWithin}
-use Rattle.aeth_schedule.specs.declared.windows.Window.{Window}
+use Rattle.std.proofs.lemmas.{Bool.cases_lt, Option.slice_get-get_or}
+use Rattle.aeth_schedule.specs.{Windows.IsWithin, declared.windows.Window.Window}
 use Rattle.aeth_network.specs.Next.{HasWindow}
 use Rattle.aeth_network.proofs.KnownFirsts.{first-of, known-fewer, known-more, known-none, known-of}
 use Rattle.aeth_network.proofs.Passed.{past-test}

@@ -1,8 +1,6 @@
 use Rattle.std.proofs.Common.{◌-◌, ℕ, length}
-use Rattle.aeth_schedule.specs.Windows.{IsWithin}
-use Rattle.aeth_schedule.specs.declared.windows.Window.{Window}
-use Rattle.aeth_network.specs.Next.{HasWindow, IsFirstKnown}
-use Rattle.aeth_network.proofs.KnownFirsts.{HasSeen}
+use Rattle.aeth_schedule.specs.{Windows.IsWithin, declared.windows.Window.Window}
+use Rattle.aeth_network.{specs.Next.HasWindow, specs.Next.IsFirstKnown, proofs.KnownFirsts.HasSeen}
 use Rattle.aeth_network.proofs.windows.next_window.Given as goal
 
 -- The first cycle of the windows so far.

@@ -1,8 +1,5 @@
-use Rattle.std.proofs.Common.{take}
-use Rattle.std.specs.List.{flat_map}
-use Rattle.std.proofs.lemmas.List.Elements.{All-take}
-use Rattle.aeth_ni.specs.Entries.{IsFor}
-use Rattle.aeth_ni.specs.Program.{entries_of_channel}
+use Rattle.std.{proofs.Common.take, specs.List.flat_map, proofs.lemmas.List.Elements.All-take}
+use Rattle.aeth_ni.specs.{Entries.IsFor, Program.entries_of_channel}
 use Rattle.aeth_ni.proofs.WriteLemmas.{HoldJust-written_by}
 use Rattle.aeth_ni.proofs.laws.interfaces_hold_their_entries.Goals as goal
 

@@ -1,9 +1,7 @@
 use Rattle.std.proofs.Common.{ℕ, ◌∙◌, ◌++◌, ◌∷◌, [], List, map, sym, ap, arith}
-use Rattle.std.specs.List.{range_with_len}
 use Rattle.std.proofs.lemmas.List.FromFn.{map-range_with_len_more}
-use Rattle.aeth_order.specs.Grid.{unit_at}
-use Rattle.aeth_order.specs.Units.{keys_of}
-use Rattle.aeth_order.specs.declared.keys.UnitKeys.{UnitKeys}
+use Rattle.std.specs.List.{range_with_len}
+use Rattle.aeth_order.specs.{Grid.unit_at, Units.keys_of, declared.keys.UnitKeys.UnitKeys}
 use Rattle.aeth_order.proofs.grid.grid_of.Goals as goal
 
 -- One more place.

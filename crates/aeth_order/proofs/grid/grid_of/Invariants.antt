@@ -1,7 +1,5 @@
-use Rattle.std.proofs.Common.{◌≡◌, map}
-use Rattle.std.specs.List.{range_with_len}
-use Rattle.aeth_order.specs.Grid.{unit_at}
-use Rattle.aeth_order.specs.Units.{keys_of}
+use Rattle.std.{proofs.Common.◌≡◌, proofs.Common.map, specs.List.range_with_len}
+use Rattle.aeth_order.specs.{Grid.unit_at, Units.keys_of}
 use Rattle.aeth_order.proofs.grid.grid_of.Given as goal
 
 -- The places so far.

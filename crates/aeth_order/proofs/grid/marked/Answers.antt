@@ -1,12 +1,10 @@
 use Rattle.std.proofs.Common.{◌<◌, ◌∙◌, ◌++◌, ◌∷◌, [], Bool, false, List, Vec, Global, take, length}
-use Rattle.std.proofs.Common.{get_or, ap, arith}
+use Rattle.std.proofs.Common.{get_or, ap, arith, take_all}
 use Rattle.std.specs.List.{items_where_true}
-use Rattle.std.proofs.lemmas.List.{take_all}
-use Rattle.aeth_order.specs.declared.keys.UnitKeys.{UnitKeys}
+use Rattle.aeth_order.specs.{declared.keys.UnitKeys.UnitKeys, Grid.nobody}
 use Rattle.aeth_order.proofs.GridLemmas.{marked-no, marked-yes}
-use Rattle.aeth_order.specs.Grid.{nobody}
-use Rattle.aeth_order.proofs.grid.marked.Goals as goal
 use Rattle.aeth_order.proofs.grid.marked.Goals.{then-marks-place+in_ok-push, else-marks-place}
+use Rattle.aeth_order.proofs.grid.marked.Goals as goal
 
 -- One more place.
 pub loop-place-preserved : goal.loop-place-preserved

@@ -1,5 +1,4 @@
-use Rattle.std.proofs.Common.{◌≡◌, take}
-use Rattle.std.specs.List.{items_where_true}
+use Rattle.std.{proofs.Common.◌≡◌, proofs.Common.take, specs.List.items_where_true}
 use Rattle.aeth_order.proofs.grid.marked.Given as goal
 
 -- The places so far.

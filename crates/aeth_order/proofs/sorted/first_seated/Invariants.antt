@@ -1,6 +1,5 @@
 use Rattle.std.proofs.Common.{◌≤◌, length}
-use Rattle.aeth_order.specs.Grid.{waits_seated}
-use Rattle.aeth_order.proofs.SortedLemmas.{FailFrom}
+use Rattle.aeth_order.{specs.Grid.waits_seated, proofs.SortedLemmas.FailFrom}
 use Rattle.aeth_order.proofs.sorted.first_seated.Given as goal
 
 -- So many are left, and none behind them is meant.

@@ -1,9 +1,8 @@
 use Rattle.std.proofs.Common.{rules}
-use Rattle.std.specs.Ordering.{is_lt}
 use Rattle.std.proofs.lemmas.List.Sorted.{IsStrictWeakOrder-flip, answers_always, ranks_by}
+use Rattle.std.specs.Ordering.{is_lt}
 use Rattle.aeth_order.specs.Order.{unit_order}
-use Rattle.aeth_order.proofs.SortedLemmas.{falls-sorted}
-use Rattle.aeth_order.proofs.TurnLemmas.{unit_total}
+use Rattle.aeth_order.proofs.{SortedLemmas.falls-sorted, TurnLemmas.unit_total}
 use Rattle.aeth_order.proofs.sorted.in_order.Goals as goal
 
 -- What is sorted by their comparison turned round falls.

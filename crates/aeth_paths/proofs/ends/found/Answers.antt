@@ -1,9 +1,7 @@
-use Rattle.std.proofs.Common.{◌≡◌, ◌∙◌, ◌-◌, ◌<◌, List, All, length, sym, ap, arith}
-use Rattle.std.specs.Prelude.{slice_get}
+use Rattle.std.proofs.Common.{◌≡◌, ◌∙◌, ◌-◌, ◌<◌, List, All, length, sym, ap, arith, slice_get}
 use Rattle.std.proofs.lemmas.Option.{same_Some}
 use Rattle.aeth_base.specs.declared.ids.LinkId.{LinkId}
-use Rattle.aeth_chip.specs.declared.node.Link.{Link}
-use Rattle.aeth_chip.specs.Paths.{to_in}
+use Rattle.aeth_chip.specs.{declared.node.Link.Link, Paths.to_in}
 use Rattle.aeth_group.proofs.ListLemmas.{all_at}
 use Rattle.aeth_paths.specs.Pairs.{HasEnds}
 use Rattle.aeth_paths.proofs.EndLemmas.{path-all, path-first, path-last, path-some}

@@ -1,9 +1,7 @@
 use Rattle.std.proofs.Common.{◌≡◌, ◌∙◌, List, sym, ap, arith}
-use Rattle.aeth_slots.specs.SlotSet.{Slots}
-use Rattle.aeth_slots.specs.Choice.{chosen, is_suitable}
+use Rattle.aeth_slots.specs.{SlotSet.Slots, Choice.chosen, Choice.is_suitable}
 use Rattle.aeth_slots.proofs.ChoiceLemmas.{is_suitable-true}
-use Rattle.aeth_chip.specs.declared.node.Link.{Link}
-use Rattle.aeth_chip.specs.Paths.{path_delay}
+use Rattle.aeth_chip.specs.{declared.node.Link.Link, Paths.path_delay}
 use Rattle.aeth_paths.specs.Candidates.{gap_on}
 use Rattle.aeth_paths.proofs.EndLemmas.{chosen-need, path-delay-some}
 use Rattle.aeth_paths.proofs.ends.slots_on.Goals as goal

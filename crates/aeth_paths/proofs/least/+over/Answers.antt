@@ -1,18 +1,12 @@
 use Rattle.std.proofs.Common.{◌≡◌, ◌∙◌, ◌-◌, ◌*◌, ◌+◌, ◌<◌, ◌≤◌, ℕ, List, Contains, Some, get_or}
 use Rattle.std.proofs.Common.{rules, length, slice_get, refl, sym, ap, subst, inl, inr, arith}
-use Rattle.std.proofs.lemmas.Bool.{cases_lt}
-use Rattle.std.proofs.lemmas.Option.{same_Some, slice_get-get_or}
-use Rattle.aeth_base.proofs.Members.{Contains-slice_get}
-use Rattle.aeth_base.specs.declared.ids.LinkId.{LinkId}
-use Rattle.aeth_chip.specs.Chip.{IsNode}
-use Rattle.aeth_chip.specs.Limits.{max_routers}
-use Rattle.aeth_chip.specs.Nodes.{sends_on}
-use Rattle.aeth_chip.specs.Paths.{to_in, to_of}
-use Rattle.aeth_chip.specs.declared.node.Link.{Link}
-use Rattle.aeth_chip.specs.declared.node.Node.TheVariants.{Router}
-use Rattle.aeth_paths.specs.Least.{CostsAtLeast, OverCosts, field_to}
-use Rattle.aeth_paths.specs.Search.{Field}
-use Rattle.aeth_paths.specs.Task.{links_from}
+use Rattle.std.proofs.lemmas.{Bool.cases_lt, Option.same_Some, Option.slice_get-get_or}
+use Rattle.aeth_base.{proofs.Members.Contains-slice_get, specs.declared.ids.LinkId.LinkId}
+use Rattle.aeth_chip.specs.{Chip.IsNode, Limits.max_routers, Nodes.sends_on, Paths.to_in}
+use Rattle.aeth_chip.specs.{Paths.to_of, declared.node.Link.Link}
+use Rattle.aeth_chip.specs.{declared.node.Node.TheVariants.Router}
+use Rattle.aeth_paths.specs.{Least.CostsAtLeast, Least.OverCosts, Least.field_to, Search.Field}
+use Rattle.aeth_paths.specs.{Task.links_from}
 use Rattle.aeth_paths.proofs.LeastLemmas.{lowest-over, over-away, over-none, over-router}
 use Rattle.aeth_paths.proofs.LeastLemmas.{put-router, read-least, same-links}
 use Rattle.aeth_paths.proofs.StepLemmas.{link-below}

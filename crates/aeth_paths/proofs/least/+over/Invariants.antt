@@ -1,6 +1,5 @@
 use Rattle.std.proofs.Common.{◌≡◌, ◌-◌, ◌*◌, ◌<◌, ℕ, Some, length, slice_get}
-use Rattle.aeth_base.specs.Limits.{max_path_links}
-use Rattle.aeth_base.specs.declared.ids.LinkId.{LinkId}
+use Rattle.aeth_base.specs.{Limits.max_path_links, declared.ids.LinkId.LinkId}
 use Rattle.aeth_chip.specs.Limits.{max_links, max_routers}
 use Rattle.aeth_paths.specs.Least.{AreLeast, AreWithin, OverCosts, field_to}
 use Rattle.aeth_paths.specs.Walk.{costs_of}

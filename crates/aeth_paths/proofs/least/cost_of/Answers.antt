@@ -1,11 +1,7 @@
-use Rattle.std.proofs.Common.{◌∙◌, List, ap, arith, sym}
-use Rattle.std.specs.Prelude.{slice_get}
-use Rattle.aeth_chip.specs.Paths.{delay_in}
-use Rattle.aeth_chip.specs.declared.node.Link.{Link}
+use Rattle.std.proofs.Common.{◌∙◌, List, ap, arith, sym, slice_get}
+use Rattle.aeth_chip.specs.{Paths.delay_in, declared.node.Link.Link}
 use Rattle.aeth_book.specs.Free.{used_slots}
-use Rattle.aeth_paths.specs.Costs.{price}
-use Rattle.aeth_paths.specs.Walk.{costs_of}
-use Rattle.aeth_paths.proofs.LeastLemmas.{put-within}
+use Rattle.aeth_paths.{specs.Costs.price, specs.Walk.costs_of, proofs.LeastLemmas.put-within}
 use Rattle.aeth_paths.proofs.least.cost_of.Goals as goal
 
 -- The cost stands in the table.

@@ -1,9 +1,6 @@
 use Rattle.std.proofs.Common.{arith, subst, sym}
-use Rattle.aeth_chip.specs.Chip.{IsNode}
-use Rattle.aeth_chip.specs.declared.node.Node.{Node}
-use Rattle.aeth_paths.specs.Least.{CostsAtLeast}
-use Rattle.aeth_paths.specs.Search.{Field}
-use Rattle.aeth_paths.specs.Task.{field}
+use Rattle.aeth_chip.specs.{Chip.IsNode, declared.node.Node.Node}
+use Rattle.aeth_paths.specs.{Least.CostsAtLeast, Search.Field, Task.field}
 use Rattle.aeth_paths.proofs.LeastLemmas.{read-least}
 use Rattle.aeth_paths.proofs.least.least_onward.Goals as goal
 

@@ -1,10 +1,8 @@
-use Rattle.std.proofs.Common.{◌∙◌, List, None, Some, sym, subst, arith}
-use Rattle.std.proofs.lemmas.Bool.{both_ways, le-leb}
-use Rattle.aeth_base.specs.declared.ids.LinkId.{LinkId}
-use Rattle.aeth_base.specs.declared.ids.NiId.{NiId}
+use Rattle.std.proofs.Common.{◌∙◌, List, None, Some, sym, subst, arith, le-leb}
+use Rattle.std.proofs.lemmas.Bool.{both_ways}
+use Rattle.aeth_base.specs.declared.ids.{LinkId.LinkId, NiId.NiId}
 use Rattle.aeth_chip.specs.Paths.{IsLinkFrom, IsOnwardDistance}
-use Rattle.aeth_chip.specs.declared.node.Link.{Link}
-use Rattle.aeth_chip.specs.declared.node.Node.TheVariants.{Ni, Router}
+use Rattle.aeth_chip.specs.declared.node.{Link.Link, Node.TheVariants.Ni, Node.TheVariants.Router}
 use Rattle.aeth_paths.proofs.HopelessLemmas.{near-walk, never-walk, no-direct}
 use Rattle.aeth_paths.proofs.least.may_lead.Goals as goal
 

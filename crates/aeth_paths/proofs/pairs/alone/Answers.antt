@@ -1,6 +1,5 @@
 use Rattle.std.proofs.Common.{◌++◌, ◌∙◌, ◌∷◌, [], List, length, ap, arith}
-use Rattle.aeth_base.specs.declared.ids.LinkId.{LinkId}
-use Rattle.aeth_base.proofs.TestLemmas.{true_from_IsTrue}
+use Rattle.aeth_base.{specs.declared.ids.LinkId.LinkId, proofs.TestLemmas.true_from_IsTrue}
 use Rattle.aeth_paths.proofs.pairs.alone.Goals as goal
 
 -- There is room for a link.

@@ -1,8 +1,7 @@
 use Rattle.std.proofs.Common.{◌*◌}
 use Rattle.aeth_base.specs.Limits.{max_path_links}
 use Rattle.aeth_chip.specs.Limits.{max_links, max_routers}
-use Rattle.aeth_paths.specs.Least.{field_to}
-use Rattle.aeth_paths.specs.Walk.{costs_of}
+use Rattle.aeth_paths.specs.{Least.field_to, Walk.costs_of}
 use Rattle.aeth_paths.proofs.LeastLemmas.{zeros-least, zeros-within}
 use Rattle.aeth_paths.proofs.pairs.search.Goals as goal
 

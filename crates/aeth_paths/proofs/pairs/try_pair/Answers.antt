@@ -1,30 +1,22 @@
-use Rattle.std.proofs.Common.{◌≡◌, ◌∙◌, false, eqb, List, [], Option, None, Some}
-use Rattle.std.proofs.Common.{ℕ, sym, ap, subst, arith}
-use Rattle.std.proofs.lemmas.Bool.{and_from, and_left, and_right, both_ways, eq-eqb, ne_eqb}
+use Rattle.std.proofs.Common.{◌≡◌, ◌∙◌, false, eqb, List, [], Option, None, Some, ℕ, sym, ap, subst}
+use Rattle.std.proofs.Common.{arith, eq-eqb, ne_eqb}
+use Rattle.std.proofs.lemmas.Bool.{and_from, and_left, and_right, both_ways}
 use Rattle.aeth_base.proofs.TestLemmas.{IsTrue_from_true}
-use Rattle.aeth_base.specs.Limits.{max_path_links}
-use Rattle.aeth_base.specs.declared.ids.LinkId.{LinkId}
-use Rattle.aeth_chip.specs.declared.node.Link.{Link}
-use Rattle.aeth_chip.specs.declared.node.Node.{Node}
-use Rattle.aeth_chip.specs.declared.node.Node.TheVariants.{Ni}
-use Rattle.aeth_chip.specs.Chip.{IsNode}
-use Rattle.aeth_chip.specs.Paths.{IsDistance, IsLinkFrom}
-use Rattle.aeth_chip.specs.LeastOnward.{least_from}
-use Rattle.aeth_paths.specs.Open.{is_crowded, open_steps}
-use Rattle.aeth_paths.specs.Task.{field}
-use Rattle.aeth_paths.specs.Pairs.{IsOffered, Tries}
-use Rattle.aeth_paths.specs.Search.{completions, first_from}
-use Rattle.aeth_paths.specs.Walk.{costs_of, path_in}
-use Rattle.aeth_paths.proofs.EndLemmas.{from-inside}
-use Rattle.aeth_paths.proofs.EnterLemmas.{to-inside}
-use Rattle.aeth_paths.proofs.HopelessLemmas.{no-direct}
-use Rattle.aeth_paths.proofs.StepLemmas.{path_in-priced}
-use Rattle.aeth_paths.proofs.TryLemmas.{steps-allowed, tries-none, tries-pair}
+use Rattle.aeth_base.specs.{Limits.max_path_links, declared.ids.LinkId.LinkId}
+use Rattle.aeth_chip.specs.{declared.node.Link.Link, declared.node.Node.Node}
+use Rattle.aeth_chip.specs.{declared.node.Node.TheVariants.Ni, Chip.IsNode, Paths.IsDistance}
+use Rattle.aeth_chip.specs.{Paths.IsLinkFrom, LeastOnward.least_from}
+use Rattle.aeth_paths.specs.{Open.is_crowded, Open.open_steps, Task.field, Pairs.IsOffered}
+use Rattle.aeth_paths.specs.{Pairs.Tries, Search.completions, Search.first_from, Walk.costs_of}
+use Rattle.aeth_paths.specs.{Walk.path_in}
+use Rattle.aeth_paths.proofs.{EndLemmas.from-inside, EnterLemmas.to-inside}
+use Rattle.aeth_paths.proofs.{HopelessLemmas.no-direct, StepLemmas.path_in-priced}
+use Rattle.aeth_paths.proofs.{TryLemmas.steps-allowed, TryLemmas.tries-none, TryLemmas.tries-pair}
+use Rattle.aeth_paths.proofs.{pairs.try_pair.Goals.After-start-begun}
+use Rattle.aeth_paths.proofs.{pairs.try_pair.Goals.else-a-b-via-then-a-b+else-holds}
+use Rattle.aeth_paths.proofs.{pairs.try_pair.Goals.else-a-b-via-else-a-b}
 use Rattle.aeth_paths.proofs.pairs.try_pair.Given as given
 use Rattle.aeth_paths.proofs.pairs.try_pair.Goals as goal
-use Rattle.aeth_paths.proofs.pairs.try_pair.Goals.{After-start-begun}
-use Rattle.aeth_paths.proofs.pairs.try_pair.Goals.{else-a-b-via-then-a-b+else-holds}
-use Rattle.aeth_paths.proofs.pairs.try_pair.Goals.{else-a-b-via-else-a-b}
 
 -- One crowded interface is no pair.
 pub returns-then-holds-clause-tries : goal.returns-then-holds-clause-tries

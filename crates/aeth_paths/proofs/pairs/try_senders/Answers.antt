@@ -1,11 +1,9 @@
 use Rattle.std.proofs.Common.{◌∙◌, ◌+◌, ◌<◌, ℕ, All, List, take, None, refl, ap, arith, sym, subst}
-use Rattle.std.specs.Prelude.{sum_by}
-use Rattle.std.proofs.lemmas.List.{take_all}
+use Rattle.std.proofs.Common.{sum_by, take_all}
 use Rattle.std.proofs.lemmas.List.Elements.{All-nil}
 use Rattle.aeth_base.specs.declared.ids.NiId.{NiId}
-use Rattle.aeth_paths.specs.Open.{allowed_steps, each_once}
-use Rattle.aeth_paths.specs.Pairs.{OfferedFrom, OfferedTo, Tries}
-use Rattle.aeth_paths.specs.Walk.{costs_of, path_in}
+use Rattle.aeth_paths.specs.{Open.allowed_steps, Open.each_once, Pairs.OfferedFrom, Pairs.OfferedTo}
+use Rattle.aeth_paths.specs.{Pairs.Tries, Walk.costs_of, Walk.path_in}
 use Rattle.aeth_paths.proofs.OnceLemmas.{below_more, stands-Contains, sum-new, sum-old}
 use Rattle.aeth_paths.proofs.TryLemmas.{tries-again, tries-more, tries-no}
 use Rattle.aeth_paths.proofs.pairs.try_senders.Goals.{then-not-holds_below, else-not-holds_below}

@@ -1,8 +1,7 @@
 use Rattle.std.proofs.Common.{◌≡◌, ◌+◌, ◌<◌, ◌≤◌, All, None, take}
 use Rattle.aeth_base.specs.declared.ids.NiId.{NiId}
-use Rattle.aeth_paths.specs.Open.{all_steps}
-use Rattle.aeth_paths.specs.Pairs.{OfferedFrom, Tries}
-use Rattle.aeth_paths.specs.Walk.{costs_of, path_in, priced}
+use Rattle.aeth_paths.specs.{Open.all_steps, Pairs.OfferedFrom, Pairs.Tries, Walk.costs_of}
+use Rattle.aeth_paths.specs.{Walk.path_in, Walk.priced}
 use Rattle.aeth_paths.proofs.pairs.try_senders.Given as goal
 
 -- The senders so far were tried.

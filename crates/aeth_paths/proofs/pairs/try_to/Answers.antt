@@ -1,11 +1,9 @@
-use Rattle.std.proofs.Common.{◌∙◌, ◌+◌, ◌<◌, ℕ, All, List, take, ap, arith, sym, subst}
-use Rattle.std.specs.Prelude.{sum_by}
-use Rattle.std.proofs.lemmas.List.{take_all}
+use Rattle.std.proofs.Common.{◌∙◌, ◌+◌, ◌<◌, ℕ, All, List, take, ap, arith, sym, subst, sum_by}
+use Rattle.std.proofs.Common.{take_all}
 use Rattle.std.proofs.lemmas.List.Elements.{All-nil}
 use Rattle.aeth_base.specs.declared.ids.NiId.{NiId}
-use Rattle.aeth_paths.specs.Open.{allowed_steps, each_once}
-use Rattle.aeth_paths.specs.Pairs.{IsOffered, OfferedTo, Tries}
-use Rattle.aeth_paths.specs.Walk.{costs_of, path_in}
+use Rattle.aeth_paths.specs.{Open.allowed_steps, Open.each_once, Pairs.IsOffered, Pairs.OfferedTo}
+use Rattle.aeth_paths.specs.{Pairs.Tries, Walk.costs_of, Walk.path_in}
 use Rattle.aeth_paths.proofs.OnceLemmas.{below_more, stands-Contains, sum-new, sum-old}
 use Rattle.aeth_paths.proofs.TryLemmas.{tries-again, tries-more, tries-no}
 use Rattle.aeth_paths.proofs.pairs.try_to.Goals.{then-not-holds_below, else-not-holds_below}

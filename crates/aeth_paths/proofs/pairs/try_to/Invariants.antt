@@ -1,9 +1,7 @@
-use Rattle.std.proofs.Common.{◌≡◌, ◌+◌, ◌<◌, ◌≤◌, All, take}
-use Rattle.std.specs.Prelude.{sum_by}
+use Rattle.std.proofs.Common.{◌≡◌, ◌+◌, ◌<◌, ◌≤◌, All, take, sum_by}
 use Rattle.aeth_base.specs.declared.ids.NiId.{NiId}
-use Rattle.aeth_paths.specs.Open.{allowed_steps, each_once}
-use Rattle.aeth_paths.specs.Pairs.{OfferedTo, Tries}
-use Rattle.aeth_paths.specs.Walk.{costs_of, path_in, priced}
+use Rattle.aeth_paths.specs.{Open.allowed_steps, Open.each_once, Pairs.OfferedTo, Pairs.Tries}
+use Rattle.aeth_paths.specs.{Walk.costs_of, Walk.path_in, Walk.priced}
 use Rattle.aeth_paths.proofs.pairs.try_to.Given as goal
 
 -- The receivers so far were tried.

@@ -1,6 +1,4 @@
-use Rattle.std.proofs.Common.{◌∙◌, List, ap}
-use Rattle.std.specs.Prelude.{slice_get}
-use Rattle.std.proofs.lemmas.Bool.{OnTrue_at}
+use Rattle.std.proofs.{Common.◌∙◌, Common.List, Common.ap, Common.slice_get, lemmas.Bool.OnTrue_at}
 use Rattle.aeth_base.proofs.TestLemmas.{true_from_IsTrue}
 use Rattle.aeth_chip.specs.declared.node.Link.{Link}
 use Rattle.aeth_paths.proofs.PrefixLemmas.{prefix-push}

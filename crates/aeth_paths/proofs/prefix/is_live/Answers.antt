@@ -1,10 +1,7 @@
 use Rattle.std.proofs.Common.{◌≡◌, ◌∙◌, ◌+◌, ◌-◌, ℕ, ap, arith, leb}
-use Rattle.aeth_slots.specs.Choice.{is_suitable}
-use Rattle.aeth_slots.specs.SlotSet.{Slots}
-use Rattle.aeth_paths.specs.Candidates.{gap_on, is_live}
-use Rattle.aeth_paths.specs.declared.prefix.Prefix.{Prefix}
-use Rattle.aeth_paths.specs.declared.prefix.Task.{Task}
-use Rattle.aeth_paths.specs.Walk.{IsPrefix}
+use Rattle.aeth_slots.specs.{Choice.is_suitable, SlotSet.Slots}
+use Rattle.aeth_paths.specs.{Candidates.gap_on, Candidates.is_live, declared.prefix.Prefix.Prefix}
+use Rattle.aeth_paths.specs.{declared.prefix.Task.Task, Walk.IsPrefix}
 use Rattle.aeth_paths.proofs.LiveLemmas.{suitable-told, suitable-wide}
 use Rattle.aeth_paths.proofs.prefix.is_live.Goals as goal
 

@@ -1,6 +1,5 @@
-use Rattle.std.proofs.Common.{◌∙◌, ◌<◌, ◌++◌, sym, ap, arith}
+use Rattle.std.proofs.Common.{◌∙◌, ◌<◌, ◌++◌, sym, ap, arith, le-ltb, ltb-true}
 use Rattle.std.specs.Ordering.{is_lt}
-use Rattle.std.proofs.lemmas.Bool.{le-ltb, ltb-true}
 use Rattle.aeth_base.proofs.TestLemmas.{true_from_IsTrue}
 use Rattle.aeth_paths.proofs.OrderLemmas.{front-link, links-differ, links-same}
 use Rattle.aeth_paths.proofs.priced.is_behind.Goals as goal

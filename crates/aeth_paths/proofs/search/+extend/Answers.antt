@@ -1,18 +1,14 @@
-use Rattle.std.proofs.Common.{◌≡◌, ◌∙◌, ◌+◌, ◌-◌, ◌++◌, ◌∷◌, [], ℕ, List, Some}
-use Rattle.std.proofs.Common.{length, sym, ap, arith, rules, length-append}
-use Rattle.std.specs.Prelude.{slice_get}
+use Rattle.std.proofs.Common.{◌≡◌, ◌∙◌, ◌+◌, ◌-◌, ◌++◌, ◌∷◌, [], ℕ, List, Some, length, sym, ap}
+use Rattle.std.proofs.Common.{arith, rules, length-append, slice_get}
 use Rattle.std.proofs.lemmas.Option.{slice_get_within}
-use Rattle.aeth_base.specs.declared.ids.LinkId.{LinkId}
-use Rattle.aeth_chip.specs.LeastOnward.{least_from}
-use Rattle.aeth_chip.specs.declared.node.Link.{Link}
-use Rattle.aeth_paths.specs.Search.{Field, by_turn, completions, first_from, keep}
-use Rattle.aeth_paths.specs.Task.{links_from}
-use Rattle.aeth_paths.specs.Walk.{costs_of, field_of, path_in, priced}
-use Rattle.aeth_paths.specs.declared.search.Turn.{Turn}
-use Rattle.aeth_base.proofs.Members.{Contains-slice_get}
+use Rattle.aeth_base.{specs.declared.ids.LinkId.LinkId, proofs.Members.Contains-slice_get}
+use Rattle.aeth_chip.specs.{LeastOnward.least_from, declared.node.Link.Link}
+use Rattle.aeth_paths.specs.{Search.Field, Search.by_turn, Search.completions, Search.first_from}
+use Rattle.aeth_paths.specs.{Search.keep, Task.links_from, Walk.costs_of, Walk.field_of}
+use Rattle.aeth_paths.specs.{Walk.path_in, Walk.priced, declared.search.Turn.Turn}
 use Rattle.aeth_paths.proofs.StepLemmas.{all-left, all-ports, along-longer, best-end, best-step}
-use Rattle.aeth_paths.proofs.StepLemmas.{completions-none, link-below, priced-again, stands-goes, steps-away}
-use Rattle.aeth_paths.proofs.StepLemmas.{steps-end, steps-longer, steps_over}
+use Rattle.aeth_paths.proofs.StepLemmas.{completions-none, link-below, priced-again, stands-goes}
+use Rattle.aeth_paths.proofs.StepLemmas.{steps-away, steps-end, steps-longer, steps_over}
 use Rattle.aeth_paths.proofs.search.+extend.Goals.{in-Away, in-Ends, in-Goes}
 use Rattle.aeth_paths.proofs.search.+extend.Goals as goal
 

@@ -1,6 +1,5 @@
-use Rattle.std.proofs.Common.{◌≡◌, ◌-◌, ◌+◌, ◌≤◌, length, take}
+use Rattle.std.proofs.Common.{◌≡◌, ◌-◌, ◌+◌, ◌≤◌, length, take, sum_by}
 use Rattle.std.specs.List.{flat_map}
-use Rattle.std.specs.Prelude.{sum_by}
 use Rattle.aeth_chip.specs.LeastOnward.{least_from}
 use Rattle.aeth_paths.specs.Search.{along, completions, first_from}
 use Rattle.aeth_paths.specs.Walk.{field_of, path_in, priced}

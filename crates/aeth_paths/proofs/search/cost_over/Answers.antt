@@ -1,15 +1,9 @@
-use Rattle.std.proofs.Common.{◌≡◌, ◌∙◌, List, true, ap, arith, subst, sym}
-use Rattle.std.specs.Prelude.{slice_get}
+use Rattle.std.proofs.Common.{◌≡◌, ◌∙◌, List, true, ap, arith, subst, sym, slice_get}
 use Rattle.aeth_base.specs.declared.ids.LinkId.{LinkId}
-use Rattle.aeth_chip.specs.Nodes.{is_router}
-use Rattle.aeth_chip.specs.Paths.{to_in, to_of}
-use Rattle.aeth_chip.specs.declared.node.Link.{Link}
-use Rattle.aeth_chip.specs.declared.node.Node.{Node}
-use Rattle.aeth_paths.specs.Least.{CostsAtLeast}
-use Rattle.aeth_paths.specs.Search.{Field}
-use Rattle.aeth_paths.specs.Walk.{field_of}
-use Rattle.aeth_paths.proofs.LeastLemmas.{paths-cost}
-use Rattle.aeth_paths.proofs.StepLemmas.{link-below}
+use Rattle.aeth_chip.specs.{Nodes.is_router, Paths.to_in, Paths.to_of, declared.node.Link.Link}
+use Rattle.aeth_chip.specs.{declared.node.Node.Node}
+use Rattle.aeth_paths.specs.{Least.CostsAtLeast, Search.Field, Walk.field_of}
+use Rattle.aeth_paths.proofs.{LeastLemmas.paths-cost, StepLemmas.link-below}
 use Rattle.aeth_paths.proofs.search.cost_over.Goals as goal
 
 -- The link is one of the chip.

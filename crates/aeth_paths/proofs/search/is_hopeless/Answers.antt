@@ -1,8 +1,7 @@
 use Rattle.std.proofs.Common.{◌∙◌, ◌+◌, List, Some, sym, subst, arith}
 use Rattle.std.proofs.lemmas.Bool.{not-false, not-true}
 use Rattle.aeth_base.proofs.TestLemmas.{true_from_IsTrue}
-use Rattle.aeth_chip.specs.LeastOnward.{least_from}
-use Rattle.aeth_chip.specs.declared.node.Link.{Link}
+use Rattle.aeth_chip.specs.{LeastOnward.least_from, declared.node.Link.Link}
 use Rattle.aeth_paths.specs.Walk.{IsLeastFrom, field_of, path_in}
 use Rattle.aeth_paths.proofs.GiveUpLemmas.{dead-none, far-none, nowhere-none}
 use Rattle.aeth_paths.proofs.HopelessLemmas.{least-told, open-from, task-near, task-never}

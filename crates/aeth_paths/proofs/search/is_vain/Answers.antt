@@ -1,16 +1,13 @@
 use Rattle.std.proofs.Common.{◌≡◌, ◌+◌, ◌++◌, ◌∷◌, [], List, length, ap, subst, sym, arith}
 use Rattle.std.proofs.lemmas.Bool.{not-true}
-use Rattle.aeth_base.specs.declared.ids.LinkId.{LinkId}
-use Rattle.aeth_base.proofs.TestLemmas.{true_from_IsTrue}
+use Rattle.aeth_base.{specs.declared.ids.LinkId.LinkId, proofs.TestLemmas.true_from_IsTrue}
 use Rattle.aeth_chip.specs.declared.node.Node.{Node}
-use Rattle.aeth_paths.specs.Least.{PathsCost}
-use Rattle.aeth_paths.specs.Walk.{GainsNothing, field_of, path_in}
+use Rattle.aeth_paths.specs.{Least.PathsCost, Walk.GainsNothing, Walk.field_of, Walk.path_in}
 use Rattle.aeth_paths.proofs.GiveUpLemmas.{far-none, nowhere-none}
-use Rattle.aeth_paths.proofs.HopelessLemmas.{task-fewest, task-near, task-never}
-use Rattle.aeth_paths.proofs.HopelessLemmas.{task-outdone}
+use Rattle.aeth_paths.proofs.HopelessLemmas.{task-fewest, task-near, task-never, task-outdone}
 use Rattle.aeth_paths.proofs.VainLemmas.{IsLonger, link-there, longer-is}
-use Rattle.aeth_paths.proofs.search.is_vain.Goals as goal
 use Rattle.aeth_paths.proofs.search.is_vain.Goals.{After-link, After-push}
+use Rattle.aeth_paths.proofs.search.is_vain.Goals as goal
 
 -- The link is one of the chip.
 pub link-requires : goal.link-requires

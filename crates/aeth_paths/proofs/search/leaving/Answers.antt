@@ -1,7 +1,5 @@
-use Rattle.std.proofs.Common.{◌∙◌, List, ℕ, [], ◌∷◌, map, sym, ap}
-use Rattle.std.specs.Prelude.{slice_get}
-use Rattle.aeth_chip.specs.declared.node.Node.{Node}
-use Rattle.aeth_chip.specs.Nodes.{sends_on}
+use Rattle.std.proofs.Common.{◌∙◌, List, ℕ, [], ◌∷◌, map, sym, ap, slice_get}
+use Rattle.aeth_chip.specs.{declared.node.Node.Node, Nodes.sends_on}
 use Rattle.aeth_paths.specs.Task.{links_from}
 use Rattle.aeth_paths.proofs.PrefixLemmas.{link-at, past-one}
 use Rattle.aeth_paths.proofs.search.leaving.Goals as goal

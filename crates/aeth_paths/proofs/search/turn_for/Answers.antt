@@ -1,8 +1,7 @@
 use Rattle.std.proofs.Common.{◌∙◌, ◌++◌, ◌∷◌, [], sym, ap}
 use Rattle.aeth_base.proofs.TestLemmas.{IsTrue_from_true}
-use Rattle.aeth_paths.specs.Search.{Field, by_turn, completions, first_from}
-use Rattle.aeth_paths.specs.Walk.{field_of, path_in, priced}
-use Rattle.aeth_paths.specs.declared.search.Turn.{Turn}
+use Rattle.aeth_paths.specs.{Search.Field, Search.by_turn, Search.completions, Search.first_from}
+use Rattle.aeth_paths.specs.{Walk.field_of, Walk.path_in, Walk.priced, declared.search.Turn.Turn}
 use Rattle.aeth_paths.proofs.StepLemmas.{link-below}
 use Rattle.aeth_paths.proofs.search.turn_for.Goals as goal
 

@@ -1,10 +1,9 @@
 use Rattle.std.proofs.Common.{◌∙◌, ◌+◌, ◌++◌, ◌∷◌, [], ℕ, List, ap, arith, drop, sym}
 use Rattle.std.proofs.lemmas.List.{drop_more}
 use Rattle.aeth_group.specs.declared.grant.Grant.{Grant}
-use Rattle.aeth_plan.specs.Lines.{GrantWords}
-use Rattle.aeth_plan.specs.Rules.{each, known_grant}
-use Rattle.aeth_document.proofs.Fronts.{front_none, with_front}
+use Rattle.aeth_plan.specs.{Lines.GrantWords, Rules.each, Rules.known_grant}
 use Rattle.aeth_plan.proofs.Fronts.{front_more}
+use Rattle.aeth_document.proofs.Fronts.{front_none, with_front}
 use Rattle.aeth_plan.proofs.known.known_grants.Goals as goal
 
 -- No line was looked at.

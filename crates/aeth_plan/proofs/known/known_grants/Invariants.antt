@@ -1,7 +1,5 @@
-use Rattle.std.proofs.Common.{◌≡◌, drop}
-use Rattle.std.specs.Prelude.{IfSome}
-use Rattle.aeth_plan.specs.Known.{IsNamed}
-use Rattle.aeth_plan.specs.Rules.{each, known_grant}
+use Rattle.std.proofs.Common.{◌≡◌, drop, IfSome}
+use Rattle.aeth_plan.specs.{Known.IsNamed, Rules.each, Rules.known_grant}
 use Rattle.aeth_document.proofs.Fronts.{with_front}
 use Rattle.aeth_plan.proofs.known.known_grants.Given as goal
 

@@ -1,11 +1,9 @@
 use Rattle.std.proofs.Common.{◌∙◌, ◌+◌, ◌++◌, ◌∷◌, [], ℕ, List, ap, arith, drop, sym}
 use Rattle.std.proofs.lemmas.List.{drop_more}
 use Rattle.aeth_group.specs.declared.grant.SeatLine.{SeatLine}
-use Rattle.aeth_plan.specs.declared.text.SeatText.{SeatText}
-use Rattle.aeth_plan.specs.Layout.{first_seat_line}
-use Rattle.aeth_plan.specs.Rules.{each, known_seat}
+use Rattle.aeth_plan.{specs.declared.text.SeatText.SeatText, specs.Layout.first_seat_line}
+use Rattle.aeth_plan.{specs.Rules.each, specs.Rules.known_seat, proofs.Fronts.front_more}
 use Rattle.aeth_document.proofs.Fronts.{front_none, with_front}
-use Rattle.aeth_plan.proofs.Fronts.{front_more}
 use Rattle.aeth_plan.proofs.known.known_seats.Goals as goal
 
 -- No line was looked at.

@@ -1,6 +1,5 @@
 use Rattle.std.proofs.Common.{◌≡◌, drop}
-use Rattle.aeth_plan.specs.Layout.{first_seat_line}
-use Rattle.aeth_plan.specs.Rules.{each, known_seat}
+use Rattle.aeth_plan.specs.{Layout.first_seat_line, Rules.each, Rules.known_seat}
 use Rattle.aeth_document.proofs.Fronts.{with_front}
 use Rattle.aeth_plan.proofs.known.known_seats.Given as goal
 

@@ -1,5 +1,4 @@
-use Rattle.std.proofs.Common.{rules}
-use Rattle.std.proofs.lemmas.List.Sorted.{answers_always}
+use Rattle.std.proofs.{Common.rules, lemmas.List.Sorted.answers_always}
 use Rattle.std.specs.List.Sorted.{IsPermutation}
 use Rattle.aeth_plan.proofs.GrantOrder.{key_of, rises_by_key}
 use Rattle.aeth_plan.proofs.making.in_order.Goals as goal

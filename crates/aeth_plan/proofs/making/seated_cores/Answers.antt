@@ -1,10 +1,9 @@
-use Rattle.std.proofs.Common.{◌∙◌, ◌++◌, ◌∷◌, [], Some, None, ap, sym}
-use Rattle.std.proofs.lemmas.List.{append-nil}
+use Rattle.std.proofs.Common.{◌∙◌, ◌++◌, ◌∷◌, [], Some, None, ap, sym, append-nil}
 use Rattle.aeth_group.specs.declared.grant.SeatLine.{SeatLine}
 use Rattle.aeth_seats.specs.Places.{Place}
 use Rattle.aeth_plan.proofs.SeatedCores.{lines_from-more}
-use Rattle.aeth_plan.proofs.making.seated_cores.Goals as goal
 use Rattle.aeth_plan.proofs.making.seated_cores.Goals.{in-Some+in_ok-push, in_default}
+use Rattle.aeth_plan.proofs.making.seated_cores.Goals as goal
 
 -- One more core.
 pub loop-core-preserved : goal.loop-core-preserved

@@ -1,9 +1,7 @@
-use Rattle.std.proofs.Common.{◌∙◌, ◌+◌, ◌++◌, ◌∷◌, ℕ, List, ap, append_assoc, arith}
-use Rattle.std.proofs.Common.{drop, map, sym}
+use Rattle.std.proofs.Common.{◌∙◌, ◌+◌, ◌++◌, ◌∷◌, ℕ, List, ap, append_assoc, arith, drop, map, sym}
 use Rattle.std.proofs.lemmas.List.{drop_more}
 use Rattle.aeth_group.specs.declared.grant.Grant.{Grant}
-use Rattle.aeth_plan.specs.PlanText.{grant_words}
-use Rattle.aeth_plan.specs.Spelling.{grant_line}
+use Rattle.aeth_plan.specs.{PlanText.grant_words, Spelling.grant_line}
 use Rattle.aeth_text.specs.Spelling.{text_of_lines}
 use Rattle.aeth_plan.proofs.printing.push_grants.Goals as goal
 

@@ -1,6 +1,5 @@
 use Rattle.std.proofs.Common.{◌≡◌, ◌++◌, drop, map}
-use Rattle.aeth_plan.specs.PlanText.{grant_words}
-use Rattle.aeth_plan.specs.Spelling.{grant_line}
+use Rattle.aeth_plan.specs.{PlanText.grant_words, Spelling.grant_line}
 use Rattle.aeth_text.specs.Spelling.{text_of_lines}
 use Rattle.aeth_plan.proofs.printing.push_grants.Given as goal
 

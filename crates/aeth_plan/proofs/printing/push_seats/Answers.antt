@@ -1,8 +1,7 @@
 use Rattle.std.proofs.Common.{◌∙◌, ◌+◌, ◌++◌, ℕ, List, ap, append_assoc, arith, drop, map, sym}
 use Rattle.std.proofs.lemmas.List.{drop_more}
 use Rattle.aeth_group.specs.declared.grant.SeatLine.{SeatLine}
-use Rattle.aeth_plan.specs.PlanText.{seat_words}
-use Rattle.aeth_plan.specs.Spelling.{seat_line}
+use Rattle.aeth_plan.specs.{PlanText.seat_words, Spelling.seat_line}
 use Rattle.aeth_text.specs.Spelling.{text_of_lines}
 use Rattle.aeth_plan.proofs.printing.push_seats.Goals as goal
 

@@ -1,6 +1,5 @@
 use Rattle.std.proofs.Common.{◌≡◌, ◌++◌, drop, map}
-use Rattle.aeth_plan.specs.PlanText.{seat_words}
-use Rattle.aeth_plan.specs.Spelling.{seat_line}
+use Rattle.aeth_plan.specs.{PlanText.seat_words, Spelling.seat_line}
 use Rattle.aeth_text.specs.Spelling.{text_of_lines}
 use Rattle.aeth_plan.proofs.printing.push_seats.Given as goal
 

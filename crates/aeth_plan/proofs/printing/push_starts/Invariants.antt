@@ -1,7 +1,5 @@
-use Rattle.std.proofs.Common.{◌≡◌, ◌++◌, map}
-use Rattle.std.specs.Prelude.{decimal}
-use Rattle.aeth_text.specs.Spelling.{numbers_word}
-use Rattle.aeth_text.proofs.PrintLaws.{joined_on}
+use Rattle.std.proofs.Common.{◌≡◌, ◌++◌, map, decimal}
+use Rattle.aeth_text.{specs.Spelling.numbers_word, proofs.PrintLaws.joined_on}
 use Rattle.aeth_plan.proofs.printing.push_starts.Given as goal
 
 -- The starts that are left are still to be printed.

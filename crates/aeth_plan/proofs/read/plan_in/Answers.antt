@@ -1,5 +1,4 @@
-use Rattle.aeth_plan.specs.Layout.{first_seat_line}
-use Rattle.aeth_plan.specs.Plan.{grant_before, seat_before}
+use Rattle.aeth_plan.specs.{Layout.first_seat_line, Plan.grant_before, Plan.seat_before}
 use Rattle.aeth_text.proofs.OrderLaws.{rises}
 use Rattle.aeth_plan.proofs.read.plan_in.Goals as goal
 

@@ -1,5 +1,4 @@
-use Rattle.std.proofs.Common.{◌≡◌, ◌∙◌, ◌++◌, ◌∷◌, [], sym, ap, arith}
-use Rattle.std.proofs.lemmas.List.{length-append}
+use Rattle.std.proofs.Common.{◌≡◌, ◌∙◌, ◌++◌, ◌∷◌, [], sym, ap, arith, length-append}
 use Rattle.aeth_slots.specs.SlotSet.{Slots}
 use Rattle.aeth_text.specs.Fields.{number_in}
 use Rattle.aeth_plan.proofs.StartLaws.{all_starts, are_ascending-of, ascends_on, words_on}

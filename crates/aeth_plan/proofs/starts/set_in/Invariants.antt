@@ -1,9 +1,7 @@
 use Rattle.std.proofs.Common.{◌≡◌, ◌≤◌, length}
 use Rattle.aeth_slots.specs.SlotSet.{Ascends}
-use Rattle.aeth_text.specs.Fields.{number_in}
-use Rattle.aeth_text.specs.Grammar.{all_of, parts, words_left}
-use Rattle.aeth_text.specs.Limits.{comma}
-use Rattle.aeth_text.proofs.Fronts.{with_front}
+use Rattle.aeth_text.{specs.Fields.number_in, specs.Grammar.all_of, specs.Grammar.parts}
+use Rattle.aeth_text.{specs.Grammar.words_left, specs.Limits.comma, proofs.Fronts.with_front}
 use Rattle.aeth_plan.proofs.starts.set_in.Given as goal
 
 -- The starts so far, and those of the words that are left.

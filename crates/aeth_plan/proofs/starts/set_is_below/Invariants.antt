@@ -1,5 +1,4 @@
-use Rattle.std.proofs.Common.{◌≡◌, nat_lt}
-use Rattle.std.specs.List.{list_all}
+use Rattle.std.{proofs.Common.◌≡◌, proofs.Common.nat_lt, specs.List.list_all}
 use Rattle.aeth_plan.proofs.starts.set_is_below.Given as goal
 
 -- All are below the size exactly where those that are left are.

@@ -1,6 +1,5 @@
 use Rattle.std.proofs.Common.{◌∙◌, length, ap}
-use Rattle.aeth_group.specs.Members.{GroupsData}
-use Rattle.aeth_group.proofs.MemberLemmas.{length-groups_of}
+use Rattle.aeth_group.{specs.Members.GroupsData, proofs.MemberLemmas.length-groups_of}
 use Rattle.aeth_tables.specs.Switching.{spans_of}
 use Rattle.aeth_trace.specs.Spans.{SpanData}
 use Rattle.aeth_plan_commands.proofs.audit.audited.Goals as goal

@@ -1,8 +1,6 @@
-use Rattle.std.specs.Prelude.{List, length}
-use Rattle.std.proofs.lemmas.Result.{err_from_is_err_and}
+use Rattle.std.proofs.{Common.List, Common.length, lemmas.Result.err_from_is_err_and}
 use Rattle.aeth_audit.specs.declared.row.LinkRow.{LinkRow}
-use Rattle.aeth_answers.specs.Places.{files_of}
-use Rattle.aeth_answers.specs.Task.{ends}
+use Rattle.aeth_answers.specs.{Places.files_of, Task.ends}
 use Rattle.aeth_answers.proofs.FileLemmas.{Answers-ended, Answers-stopped, Answers-then}
 use Rattle.aeth_plan_commands.specs.Audit.{audit_job, audited, log_file}
 use Rattle.aeth_plan_commands.proofs.AuditJobs.{audit_job-below, audit_job-command}

@@ -1,7 +1,5 @@
-use Rattle.std.proofs.Common.{length}
-use Rattle.std.specs.Prelude.{codes}
-use Rattle.aeth_audit.specs.Fault.{rule_of}
-use Rattle.aeth_audit.specs.LinkLog.{AreLinkRowsOf, link_log_of}
+use Rattle.std.proofs.Common.{length, codes}
+use Rattle.aeth_audit.specs.{Fault.rule_of, LinkLog.AreLinkRowsOf, LinkLog.link_log_of}
 use Rattle.aeth_answers.proofs.FileLemmas.{HandsOn-keeps, Judges-told}
 use Rattle.aeth_plan_commands.proofs.audit.log_in.Goals as goal
 

@@ -1,5 +1,4 @@
-use Rattle.std.specs.Prelude.{List}
-use Rattle.std.proofs.lemmas.Result.{err_from_is_err_and}
+use Rattle.std.proofs.{Common.List, lemmas.Result.err_from_is_err_and}
 use Rattle.aeth_group.specs.Members.{groups_of}
 use Rattle.aeth_tables.specs.Switching.{spans_of}
 use Rattle.aeth_trace.specs.declared.switches.SwitchRow.{SwitchRow}

@@ -1,6 +1,4 @@
-use Rattle.std.specs.Prelude.{Vec}
-use Rattle.std.specs.Global.{Global}
-use Rattle.std.proofs.lemmas.Result.{err_from_is_err_and}
+use Rattle.std.proofs.{Common.Vec, Common.Global, lemmas.Result.err_from_is_err_and}
 use Rattle.aeth_chain.specs.declared.item.ChainItem.{ChainItem}
 use Rattle.aeth_answers.specs.Places.{files_of}
 use Rattle.aeth_answers.proofs.FileLemmas.{Answers-stopped, Answers-then}

@@ -1,9 +1,7 @@
-use Rattle.std.specs.Prelude.{Vec, codes}
-use Rattle.std.specs.Global.{Global}
+use Rattle.std.proofs.Common.{Vec, codes, Global}
 use Rattle.aeth_answers.proofs.FileLemmas.{HandsOn-keeps, Judges-told}
-use Rattle.aeth_chain.specs.declared.item.ChainItem.{ChainItem}
-use Rattle.aeth_chain.specs.ChainItems.{AreItemsOf, items_of}
-use Rattle.aeth_chain.specs.Fault.{rule_of}
+use Rattle.aeth_chain.specs.{declared.item.ChainItem.ChainItem, ChainItems.AreItemsOf}
+use Rattle.aeth_chain.specs.{ChainItems.items_of, Fault.rule_of}
 use Rattle.aeth_plan_commands.proofs.chain.judged_items.Goals as goal
 
 -- The names are judged.

@@ -1,14 +1,10 @@
-use Rattle.std.specs.Prelude.{List}
-use Rattle.std.proofs.lemmas.Result.{err_from_is_err_and}
+use Rattle.std.proofs.{Common.List, lemmas.Result.err_from_is_err_and}
 use Rattle.aeth_group.specs.Members.{groups_of}
 use Rattle.aeth_tables.specs.Tables.{tables_of}
 use Rattle.aeth_trace.specs.declared.receivers.PullRow.{PullRow}
-use Rattle.aeth_chain.specs.Chain.{bound_of, legs_of}
-use Rattle.aeth_chain.specs.ChainRun.{chain_log}
-use Rattle.aeth_chain.specs.ChainText.{chain_text}
-use Rattle.aeth_chain.specs.Shapes.{shapes_in}
-use Rattle.aeth_answers.specs.Places.{files_of}
-use Rattle.aeth_answers.specs.Task.{ends}
+use Rattle.aeth_chain.specs.{Chain.bound_of, Chain.legs_of, ChainRun.chain_log}
+use Rattle.aeth_chain.specs.{ChainText.chain_text, Shapes.shapes_in}
+use Rattle.aeth_answers.specs.{Places.files_of, Task.ends}
 use Rattle.aeth_answers.proofs.FileLemmas.{Answers-done, Answers-stopped, Answers-then}
 use Rattle.aeth_run_files.specs.TraceFiles.{receivers_file}
 use Rattle.aeth_plan_commands.specs.Chain.{chain_job}

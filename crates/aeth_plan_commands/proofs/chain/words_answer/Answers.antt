@@ -1,5 +1,4 @@
-use Rattle.std.specs.Prelude.{List}
-use Rattle.std.proofs.lemmas.Result.{err_from_is_err_and}
+use Rattle.std.proofs.{Common.List, lemmas.Result.err_from_is_err_and}
 use Rattle.aeth_trace.specs.declared.words.WordRow.{WordRow}
 use Rattle.aeth_answers.specs.Places.{files_of}
 use Rattle.aeth_answers.proofs.FileLemmas.{Answers-stopped, Answers-then}

@@ -1,10 +1,8 @@
 use Rattle.std.proofs.lemmas.Result.{err_from_is_err_and}
 use Rattle.aeth_group.specs.Members.{groups_of}
-use Rattle.aeth_answers.specs.Places.{files_of}
-use Rattle.aeth_answers.specs.Task.{ends}
+use Rattle.aeth_answers.specs.{Places.files_of, Task.ends}
 use Rattle.aeth_answers.proofs.FileLemmas.{Answers-done, Answers-stopped, Answers-then}
-use Rattle.aeth_rtable.specs.RouteText.{route_text}
-use Rattle.aeth_rtable.specs.Rows.{router_rows}
+use Rattle.aeth_rtable.specs.{RouteText.route_text, Rows.router_rows}
 use Rattle.aeth_plan_commands.specs.RouteTables.{route_tables_job}
 use Rattle.aeth_plan_commands.specs.PlannedUses.{planned_use, seen_use}
 use Rattle.aeth_plan_commands.proofs.route_tables.answer.Goals as goal

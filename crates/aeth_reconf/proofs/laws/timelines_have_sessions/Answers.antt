@@ -1,5 +1,4 @@
-use Rattle.std.proofs.Common.{[], arith}
-use Rattle.std.proofs.lemmas.List.FromFn.{get_or-map-range_with_len}
+use Rattle.std.proofs.{Common.[], Common.arith, lemmas.List.FromFn.get_or-map-range_with_len}
 use Rattle.aeth_report.specs.Sessions.{sessions_of}
 use Rattle.aeth_reconf.proofs.laws.timelines_have_sessions.Goals as goal
 

@@ -1,5 +1,4 @@
-use Rattle.std.proofs.Common.{◌≡◌, ◌++◌, drop}
-use Rattle.std.specs.List.{flat_map}
+use Rattle.std.{proofs.Common.◌≡◌, proofs.Common.◌++◌, proofs.Common.drop, specs.List.flat_map}
 use Rattle.aeth_ni.specs.Program.{closing_writes}
 use Rattle.aeth_reconf.proofs.writes.push_all_closing.Given as goal
 

@@ -1,6 +1,5 @@
 use Rattle.std.proofs.Common.{◌≡◌, suc, ◌+◌, arith, subst}
-use Rattle.aeth_refinement.specs.Standing.{Stands}
-use Rattle.aeth_refinement.proofs.Whole.{step}
+use Rattle.aeth_refinement.{specs.Standing.Stands, proofs.Whole.step}
 use Rattle.aeth_refinement.proofs.laws.cycles_keep_standing.Goals as goal
 
 -- The five parts of the cycle, one after the other.

@@ -2,9 +2,7 @@ use Rattle.std.proofs.Common.{◌∙◌, Some, ap}
 use Rattle.aeth_clocked.specs.declared.flit.Flit.{Flit}
 use Rattle.aeth_ni.specs.Component.{arrival_of}
 use Rattle.aeth_report.specs.Carries.{header_at, words_at}
-use Rattle.aeth_refinement.specs.Fabric.{flow_at}
-use Rattle.aeth_refinement.proofs.Routers.{none_lost}
-use Rattle.aeth_refinement.proofs.Routes.{arrives}
+use Rattle.aeth_refinement.{specs.Fabric.flow_at, proofs.Routers.none_lost, proofs.Routes.arrives}
 use Rattle.aeth_refinement.proofs.laws.no_flit_is_lost.Goals as goal
 
 -- Its session's path goes on, and no other flit goes on there.

@@ -1,6 +1,5 @@
 use Rattle.std.proofs.Common.{◌≡◌, suc, ◌+◌, arith, subst}
-use Rattle.aeth_refinement.specs.Fabric.{Owns}
-use Rattle.aeth_refinement.proofs.Whole.{step, within-buffer}
+use Rattle.aeth_refinement.{specs.Fabric.Owns, proofs.Whole.step, proofs.Whole.within-buffer}
 use Rattle.aeth_refinement.proofs.laws.queues_fit.Goals as goal
 
 -- Words are sent for credits alone.

@@ -1,6 +1,5 @@
 use Rattle.std.proofs.Common.{◌≡◌, suc, ◌+◌, arith, subst}
-use Rattle.aeth_refinement.specs.Tables.{AreEntries}
-use Rattle.aeth_refinement.proofs.Tables.{passed-once}
+use Rattle.aeth_refinement.{specs.Tables.AreEntries, proofs.Tables.passed-once}
 use Rattle.aeth_refinement.proofs.laws.tables_lose_nothing.Goals as goal
 
 -- A flit that is held goes on by the wire of its session's path.

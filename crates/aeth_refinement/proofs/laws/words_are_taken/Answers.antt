@@ -1,7 +1,6 @@
 use Rattle.std.proofs.Common.{◌≡◌, ◌∙◌, suc, ◌+◌, ap, arith, subst}
 use Rattle.aeth_server.specs.PrivateServer.{taken}
-use Rattle.aeth_refinement.specs.Fabric.{Owns, server_at}
-use Rattle.aeth_refinement.proofs.Whole.{step}
+use Rattle.aeth_refinement.{specs.Fabric.Owns, specs.Fabric.server_at, proofs.Whole.step}
 use Rattle.aeth_refinement.proofs.laws.words_are_taken.Goals as goal
 
 -- What has landed and wasn't taken is there.

@@ -1,7 +1,6 @@
 use Rattle.std.proofs.Common.{◌≡◌, ◌∙◌, ℕ, suc, ◌+◌, ◌-◌, sym, ap, arith, subst}
 use Rattle.aeth_server.specs.PrivateServer.{landed}
-use Rattle.aeth_refinement.specs.Carried.{words_from}
-use Rattle.aeth_refinement.specs.Fabric.{Owns, flow_at, server_at}
+use Rattle.aeth_refinement.specs.{Carried.words_from, Fabric.Owns, Fabric.flow_at, Fabric.server_at}
 use Rattle.aeth_refinement.proofs.Landing.{lands}
 use Rattle.aeth_refinement.proofs.laws.words_land.Goals as goal
 

@@ -1,7 +1,6 @@
-use Rattle.aeth_report.specs.Flows.{server_of}
-use Rattle.aeth_report.proofs.ClosingLemmas.{lands_by_finish}
-use Rattle.aeth_report.proofs.FinalCounts.{is_below, landed-final, taken-final}
-use Rattle.aeth_report.proofs.OneFlit.{session-paths}
+use Rattle.aeth_report.{specs.Flows.server_of, proofs.ClosingLemmas.lands_by_finish}
+use Rattle.aeth_report.{proofs.FinalCounts.is_below, proofs.FinalCounts.landed-final}
+use Rattle.aeth_report.{proofs.FinalCounts.taken-final, proofs.OneFlit.session-paths}
 use Rattle.aeth_report.proofs.laws.counts_are_final.Goals as goal
 
 -- Nothing lands and nothing is taken from the finish on.

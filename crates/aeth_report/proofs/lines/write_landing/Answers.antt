@@ -1,7 +1,6 @@
 use Rattle.std.proofs.Common.{◌∙◌, ◌++◌, ◌∷◌, [], ap, arith, codes, decimal, sym}
 use Rattle.std.proofs.Math.ListN.{drop_of_length-le}
-use Rattle.aeth_text.specs.Limits.{line_feed, space}
-use Rattle.aeth_text.proofs.LineLemmas.{behind-five}
+use Rattle.aeth_text.{specs.Limits.line_feed, specs.Limits.space, proofs.LineLemmas.behind-five}
 use Rattle.aeth_report.specs.LogText.{landing_line, landing_room}
 use Rattle.aeth_report.proofs.lines.write_landing.Goals as goal
 

@@ -1,5 +1,4 @@
-use Rattle.std.proofs.Common.{◌≡◌, ◌++◌, drop}
-use Rattle.std.specs.List.{flat_map}
+use Rattle.std.{proofs.Common.◌≡◌, proofs.Common.◌++◌, proofs.Common.drop, specs.List.flat_map}
 use Rattle.aeth_text.specs.Spelling.{text_of_lines}
 use Rattle.aeth_report.specs.LogText.{session_lines}
 use Rattle.aeth_report.proofs.text.push_sessions.Given as goal

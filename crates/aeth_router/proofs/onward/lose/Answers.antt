@@ -1,6 +1,5 @@
 use Rattle.std.proofs.Common.{◌+◌, ◌∙◌, arith, sym, subst, List, Option}
-use Rattle.aeth_base.proofs.MarkedLemmas.{next-passing}
-use Rattle.aeth_base.specs.Marks.{is_marked, room_of}
+use Rattle.aeth_base.{proofs.MarkedLemmas.next-passing, specs.Marks.is_marked, specs.Marks.room_of}
 use Rattle.aeth_clocked.specs.declared.flit.Flit.{Flit}
 use Rattle.aeth_router.proofs.ContendedLemmas.{AreLost, AreLost-end, AreLost-first, AreLost-next}
 use Rattle.aeth_router.proofs.ContendedLemmas.{marked-within}

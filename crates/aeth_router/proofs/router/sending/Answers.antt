@@ -1,8 +1,8 @@
 use Rattle.std.proofs.Common.{sym, ◌∙◌}
 use Rattle.aeth_chip.specs.Nodes.{begins_at, sends_on}
 use Rattle.aeth_chip.proofs.NodeLemmas.{numbers_from-fails, numbers_from-passes}
-use Rattle.aeth_router.proofs.router.sending.Goals as goal
 use Rattle.aeth_router.proofs.router.sending.Goals.{then-begins_at+in_ok-push, else-begins_at}
+use Rattle.aeth_router.proofs.router.sending.Goals as goal
 
 -- The link is one more where it passes, and none where it fails.
 pub loop-number-preserved : goal.loop-number-preserved

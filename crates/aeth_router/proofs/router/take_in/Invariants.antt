@@ -1,5 +1,4 @@
-use Rattle.aeth_router.specs.Router.{numbers_of}
-use Rattle.aeth_router.proofs.Steps.{HasTaken}
+use Rattle.aeth_router.{specs.Router.numbers_of, proofs.Steps.HasTaken}
 use Rattle.aeth_router.proofs.router.take_in.Given as goal
 
 -- What has been taken so far.

@@ -1,6 +1,5 @@
-use Rattle.std.proofs.Common.{List, arith, refl, subst}
+use Rattle.std.proofs.Common.{List, arith, refl, subst, take_all}
 use Rattle.std.specs.List.Sorted.{IsNonDecreasingBy}
-use Rattle.std.proofs.lemmas.List.{take_all}
 use Rattle.aeth_router.specs.declared.router_row.RouterRow.{RouterRow}
 use Rattle.aeth_router.proofs.RowOrder.{order-more, same-place}
 use Rattle.aeth_router.proofs.row_order.are_by_router.Goals as goal

@@ -1,8 +1,7 @@
-use Rattle.std.proofs.Common.{All, List, rules, subst, sym}
-use Rattle.std.specs.Prelude.{◌≤◌, nat_lt}
-use Rattle.std.specs.List.Sorted.{IsNonDecreasingBy}
+use Rattle.std.proofs.Common.{All, List, rules, subst, sym, ◌≤◌, nat_lt}
 use Rattle.std.proofs.lemmas.List.Sorted.{IsNonDecreasingBy-drop, IsPartitionPoint-from_clause}
 use Rattle.std.proofs.lemmas.List.Sorted.{IsPartitionedBy-ltb}
+use Rattle.std.specs.List.Sorted.{IsNonDecreasingBy}
 use Rattle.aeth_router.specs.declared.router_row.RouterRow.{RouterRow}
 use Rattle.aeth_router.proofs.RowOrder.{least-behind, own-behind, rows-behind}
 use Rattle.aeth_router.proofs.row_order.rows_from.Goals as goal

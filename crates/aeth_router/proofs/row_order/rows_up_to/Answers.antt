@@ -1,8 +1,6 @@
-use Rattle.std.proofs.Common.{rules}
-use Rattle.std.specs.Prelude.{nat_le}
+use Rattle.std.proofs.Common.{rules, nat_le}
 use Rattle.std.proofs.lemmas.List.Sorted.{IsPartitionPoint-from_clause, IsPartitionedBy-leb}
-use Rattle.aeth_router.specs.declared.router_row.RouterRow.{RouterRow}
-use Rattle.aeth_router.proofs.RowOrder.{own-first}
+use Rattle.aeth_router.{specs.declared.router_row.RouterRow.RouterRow, proofs.RowOrder.own-first}
 use Rattle.aeth_router.proofs.row_order.rows_up_to.Goals as goal
 
 -- Those up to the last of no router behind it.

@@ -1,5 +1,4 @@
-use Rattle.std.proofs.Common.{[], take, None}
-use Rattle.std.proofs.lemmas.List.{take_more}
+use Rattle.std.proofs.{Common.[], Common.take, Common.None, lemmas.List.take_more}
 use Rattle.aeth_router.specs.Router.{emitted_on, numbers_of}
 use Rattle.aeth_router.proofs.IdleLemmas.{Drives-silent, emitted_on-idle}
 use Rattle.aeth_router.proofs.TrafficLemmas.{AreNamed-first}

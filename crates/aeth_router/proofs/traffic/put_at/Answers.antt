@@ -1,13 +1,10 @@
-use Rattle.std.proofs.Common.{◌≤◌, ◌∙◌, ℕ, ap, arith, length}
-use Rattle.std.proofs.Common.{sym}
+use Rattle.std.proofs.Common.{◌≤◌, ◌∙◌, ℕ, ap, arith, length, sym}
+use Rattle.std.proofs.lemmas.{Bool.Decides.nat_tests, List.length-map, Option.same_Some}
+use Rattle.std.proofs.lemmas.{Option.slice_get_past}
 use Rattle.std.specs.List.{slice_set}
-use Rattle.std.proofs.lemmas.Bool.Decides.{nat_tests}
-use Rattle.std.proofs.lemmas.List.{length-map}
-use Rattle.std.proofs.lemmas.Option.{same_Some, slice_get_past}
 use Rattle.aeth_base.specs.declared.ids.LinkId.{LinkId}
 use Rattle.aeth_router.specs.Router.{numbers_of}
-use Rattle.aeth_router.proofs.LinkLemmas.{is_among-at}
-use Rattle.aeth_router.proofs.Steps.{numbers_of-got}
+use Rattle.aeth_router.proofs.{LinkLemmas.is_among-at, Steps.numbers_of-got}
 use Rattle.aeth_router.proofs.traffic.put_at.Goals as goal
 
 -- The link of the port is a link.

@@ -1,11 +1,8 @@
 use Rattle.std.proofs.Common.{◌≡◌, ◌*◌, ◌∙◌, List, [], Option, drop, filter, length, subst, sym}
-use Rattle.std.specs.Prelude.{flat_map}
-use Rattle.std.proofs.lemmas.List.{take_at}
+use Rattle.std.proofs.Common.{flat_map, take_at}
 use Rattle.aeth_base.specs.declared.ids.LinkId.{LinkId}
-use Rattle.aeth_group.specs.Members.{has_unit}
-use Rattle.aeth_group.specs.declared.grant.Grant.{Grant}
-use Rattle.aeth_rtable.specs.Entries.{HasEntries}
-use Rattle.aeth_rtable.specs.Hops.{hops_in, hops_of}
+use Rattle.aeth_group.specs.{Members.has_unit, declared.grant.Grant.Grant}
+use Rattle.aeth_rtable.specs.{Entries.HasEntries, Hops.hops_in, Hops.hops_of}
 use Rattle.aeth_rtable.proofs.EntryLaws.{none_noted}
 use Rattle.aeth_rtable.proofs.hops.entries_in.Goals as goal
 

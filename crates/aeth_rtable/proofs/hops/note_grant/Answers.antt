@@ -1,11 +1,7 @@
-use Rattle.std.proofs.Common.{◌≡◌, ◌-◌, ℕ, List, length, subst, arith}
-use Rattle.std.specs.Prelude.{flat_map}
+use Rattle.std.proofs.Common.{◌≡◌, ◌-◌, ℕ, List, length, subst, arith, flat_map}
 use Rattle.std.specs.List.{range_with_len}
-use Rattle.aeth_rtable.specs.Entries.{Adds}
-use Rattle.aeth_rtable.specs.Hops.{hops_at}
-use Rattle.aeth_rtable.specs.declared.hops.Hop.{Hop}
-use Rattle.aeth_rtable.proofs.EntryLaws.{Adds-none, Adds-then}
-use Rattle.aeth_rtable.proofs.Lists.{from_one_more}
+use Rattle.aeth_rtable.specs.{Entries.Adds, Hops.hops_at, declared.hops.Hop.Hop}
+use Rattle.aeth_rtable.proofs.{EntryLaws.Adds-none, EntryLaws.Adds-then, Lists.from_one_more}
 use Rattle.aeth_rtable.proofs.hops.note_grant.Goals as goal
 
 -- Before the second place nothing is noted.

@@ -1,8 +1,6 @@
-use Rattle.std.proofs.Common.{◌≤◌, ◌-◌, length}
-use Rattle.std.specs.Prelude.{flat_map}
+use Rattle.std.proofs.Common.{◌≤◌, ◌-◌, length, flat_map}
 use Rattle.std.specs.List.{range_with_len}
-use Rattle.aeth_rtable.specs.Entries.{Adds}
-use Rattle.aeth_rtable.specs.Hops.{hops_at}
+use Rattle.aeth_rtable.specs.{Entries.Adds, Hops.hops_at}
 use Rattle.aeth_rtable.proofs.hops.note_grant.Given as goal
 
 -- The hops at the places so far are noted.

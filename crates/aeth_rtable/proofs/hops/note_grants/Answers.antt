@@ -1,11 +1,6 @@
-use Rattle.std.proofs.Common.{◌∙◌, List, filter, subst, sym, take}
-use Rattle.std.specs.Prelude.{flat_map}
-use Rattle.std.proofs.lemmas.List.{take_all}
-use Rattle.aeth_group.specs.Members.{has_unit}
-use Rattle.aeth_group.specs.declared.grant.Grant.{Grant}
-use Rattle.aeth_rtable.specs.Entries.{Adds}
-use Rattle.aeth_rtable.specs.Hops.{hops_of}
-use Rattle.aeth_rtable.specs.declared.hops.Hop.{Hop}
+use Rattle.std.proofs.Common.{◌∙◌, List, filter, subst, sym, take, flat_map, take_all}
+use Rattle.aeth_group.specs.{Members.has_unit, declared.grant.Grant.Grant}
+use Rattle.aeth_rtable.specs.{Entries.Adds, Hops.hops_of, declared.hops.Hop.Hop}
 use Rattle.aeth_rtable.proofs.EntryLaws.{Adds-none, Adds-then}
 use Rattle.aeth_rtable.proofs.Lists.{kept_more, kept_same}
 use Rattle.aeth_rtable.proofs.hops.note_grants.Goals.{else-has_unit, then-has_unit}

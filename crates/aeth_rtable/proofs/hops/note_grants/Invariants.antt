@@ -1,8 +1,6 @@
-use Rattle.std.proofs.Common.{filter, take}
-use Rattle.std.specs.Prelude.{flat_map}
+use Rattle.std.proofs.Common.{filter, take, flat_map}
 use Rattle.aeth_group.specs.Members.{has_unit}
-use Rattle.aeth_rtable.specs.Entries.{Adds}
-use Rattle.aeth_rtable.specs.Hops.{hops_of}
+use Rattle.aeth_rtable.specs.{Entries.Adds, Hops.hops_of}
 use Rattle.aeth_rtable.proofs.hops.note_grants.Given as goal
 
 -- The hops of the grants so far are noted.

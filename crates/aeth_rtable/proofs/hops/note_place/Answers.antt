@@ -1,16 +1,14 @@
-use Rattle.std.proofs.Common.{◌≡◌, ◌<◌, ◌-◌, ◌*◌, ◌∙◌, ℕ, suc, List, [], ◌∷◌, All, length, sym}
-use Rattle.std.proofs.Common.{ap, subst, arith}
+use Rattle.std.proofs.Common.{◌≡◌, ◌<◌, ◌-◌, ◌*◌, ◌∙◌, ℕ, suc, List, [], ◌∷◌, All, length, sym, ap}
+use Rattle.std.proofs.Common.{subst, arith}
 use Rattle.std.proofs.Math.Nat.{mul_comm}
 use Rattle.std.proofs.lemmas.Nat.{mul-add-lt}
-use Rattle.aeth_base.specs.declared.ids.LinkId.{LinkId}
-use Rattle.aeth_base.proofs.Members.{All-slice_get}
+use Rattle.aeth_base.{specs.declared.ids.LinkId.LinkId, proofs.Members.All-slice_get}
 use Rattle.aeth_slots.specs.SlotSet.{Slots, rotated}
 use Rattle.aeth_chip.specs.Paths.{offset}
 use Rattle.aeth_rtable.specs.Entries.{Adds}
 use Rattle.aeth_rtable.specs.Hops.{hop_between, hops_at, hops_between, link_at}
-use Rattle.aeth_rtable.proofs.EntryLaws.{Adds-none, Adds-then}
-use Rattle.aeth_rtable.proofs.HopLaws.{link_at-is}
-use Rattle.aeth_rtable.proofs.Lists.{all_below}
+use Rattle.aeth_rtable.proofs.{EntryLaws.Adds-none, EntryLaws.Adds-then, HopLaws.link_at-is}
+use Rattle.aeth_rtable.proofs.{Lists.all_below}
 use Rattle.aeth_rtable.proofs.hops.note_place.Goals as goal
 
 -- All slots are still to come, and each is of the table.

@@ -2,8 +2,7 @@ use Rattle.std.proofs.Common.{◌<◌, List, Option, All}
 use Rattle.aeth_base.specs.declared.ids.LinkId.{LinkId}
 use Rattle.aeth_slots.specs.SlotSet.{rotated}
 use Rattle.aeth_chip.specs.Paths.{offset}
-use Rattle.aeth_rtable.specs.Entries.{Adds}
-use Rattle.aeth_rtable.specs.Hops.{hops_between}
+use Rattle.aeth_rtable.specs.{Entries.Adds, Hops.hops_between}
 use Rattle.aeth_rtable.proofs.hops.note_place.Given as goal
 
 -- The hops in the slots that are left are still to be noted.

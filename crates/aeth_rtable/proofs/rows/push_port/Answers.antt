@@ -1,11 +1,8 @@
-use Rattle.std.proofs.Common.{◌≡◌, ◌<◌, ◌+◌, ◌*◌, ◌++◌, ◌∙◌, ℕ, Option, length, ap, arith}
-use Rattle.std.specs.Prelude.{flat_map}
-use Rattle.std.specs.List.{range_with_len}
+use Rattle.std.proofs.Common.{◌≡◌, ◌<◌, ◌+◌, ◌*◌, ◌++◌, ◌∙◌, ℕ, Option, length, ap, arith, flat_map}
 use Rattle.std.proofs.lemmas.Option.{get_or_from_slice_get}
+use Rattle.std.specs.List.{range_with_len}
 use Rattle.aeth_base.specs.declared.ids.LinkId.{LinkId}
-use Rattle.aeth_rtable.specs.Hops.{entry_at}
-use Rattle.aeth_rtable.specs.Rows.{rows_with}
-use Rattle.aeth_rtable.proofs.Lists.{pushed_more}
+use Rattle.aeth_rtable.{specs.Hops.entry_at, specs.Rows.rows_with, proofs.Lists.pushed_more}
 use Rattle.aeth_rtable.proofs.rows.push_port.Goals as goal
 
 -- One more slot.

@@ -1,10 +1,7 @@
-use Rattle.std.proofs.Common.{◌≡◌, ◌++◌, List}
-use Rattle.std.specs.Prelude.{flat_map}
+use Rattle.std.proofs.Common.{◌≡◌, ◌++◌, List, flat_map}
 use Rattle.std.specs.List.{range_with_len}
-use Rattle.aeth_rtable.specs.Entries.{HasEntries}
-use Rattle.aeth_rtable.specs.Hops.{entry_at}
-use Rattle.aeth_rtable.specs.Rows.{rows_with}
-use Rattle.aeth_rtable.specs.declared.hops.Hop.{Hop}
+use Rattle.aeth_rtable.specs.{Entries.HasEntries, Hops.entry_at, Rows.rows_with}
+use Rattle.aeth_rtable.specs.{declared.hops.Hop.Hop}
 use Rattle.aeth_rtable.proofs.rows.push_port.Given as goal
 
 -- The rows of the slots so far.

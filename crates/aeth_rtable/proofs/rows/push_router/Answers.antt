@@ -1,12 +1,9 @@
-use Rattle.std.proofs.Common.{◌≡◌, ◌≤◌, ◌+◌, ◌*◌, ◌++◌, ◌∙◌, ℕ, length, sym, ap, subst}
-use Rattle.std.proofs.Common.{arith}
-use Rattle.std.specs.Prelude.{flat_map, slice_index}
-use Rattle.std.specs.List.{range_with_len}
+use Rattle.std.proofs.Common.{◌≡◌, ◌≤◌, ◌+◌, ◌*◌, ◌++◌, ◌∙◌, ℕ, length, sym, ap, subst, arith}
+use Rattle.std.proofs.Common.{flat_map, slice_index}
 use Rattle.std.proofs.lemmas.Nat.{row_fits}
-use Rattle.aeth_chip.specs.Nodes.{sends_on}
-use Rattle.aeth_chip.specs.declared.node.Node.TheVariants.{Router}
-use Rattle.aeth_rtable.specs.Entries.{HasEntries}
-use Rattle.aeth_rtable.specs.Rows.{rows_of_port}
+use Rattle.std.specs.List.{range_with_len}
+use Rattle.aeth_chip.specs.{Nodes.sends_on, declared.node.Node.TheVariants.Router}
+use Rattle.aeth_rtable.specs.{Entries.HasEntries, Rows.rows_of_port}
 use Rattle.aeth_rtable.proofs.Lists.{pushed_more}
 use Rattle.aeth_rtable.proofs.RouterPorts.{few_ports, link_there, port_count, port_known, port_link}
 use Rattle.aeth_rtable.proofs.rows.push_router.Goals as goal

@@ -1,11 +1,7 @@
-use Rattle.std.proofs.Common.{◌≡◌, ◌++◌, List}
-use Rattle.std.specs.Prelude.{flat_map, slice_index}
+use Rattle.std.proofs.Common.{◌≡◌, ◌++◌, List, flat_map, slice_index}
 use Rattle.std.specs.List.{range_with_len}
-use Rattle.aeth_chip.specs.Nodes.{sends_on}
-use Rattle.aeth_chip.specs.declared.node.Node.TheVariants.{Router}
-use Rattle.aeth_rtable.specs.Entries.{HasEntries}
-use Rattle.aeth_rtable.specs.Rows.{rows_of_port}
-use Rattle.aeth_rtable.specs.declared.hops.Hop.{Hop}
+use Rattle.aeth_chip.specs.{Nodes.sends_on, declared.node.Node.TheVariants.Router}
+use Rattle.aeth_rtable.specs.{Entries.HasEntries, Rows.rows_of_port, declared.hops.Hop.Hop}
 use Rattle.aeth_rtable.proofs.rows.push_router.Given as goal
 
 -- The rows of the ports so far.

@@ -2,12 +2,9 @@ use Rattle.std.proofs.Common.{◌≡◌, Global, List, Option, Vec, subst, sym}
 use Rattle.std.proofs.lemmas.Result.{IfOk-weaker}
 use Rattle.aeth_base.specs.declared.ids.LinkId.{LinkId}
 use Rattle.aeth_check.proofs.PlanParts.{are_placed}
-use Rattle.aeth_rtable.specs.Entries.{HasEntries}
-use Rattle.aeth_rtable.specs.Hops.{hops_in}
-use Rattle.aeth_rtable.specs.Rows.{router_rows}
-use Rattle.aeth_rtable.specs.RouterTables.{AreTables}
+use Rattle.aeth_rtable.{specs.Entries.HasEntries, specs.Hops.hops_in, specs.Rows.router_rows}
+use Rattle.aeth_rtable.{specs.RouterTables.AreTables, proofs.TableLaws.are_tables}
 use Rattle.aeth_router.specs.declared.router_row.RouterRow.{RouterRow}
-use Rattle.aeth_rtable.proofs.TableLaws.{are_tables}
 use Rattle.aeth_rtable.proofs.rows.router_rows.Goals as goal
 
 -- The links and slots of the grants are the chip's.

@@ -1,8 +1,6 @@
-use Rattle.std.proofs.Common.{◌≡◌, ◌∙◌, ℕ, [], length, ap, arith}
-use Rattle.std.specs.Prelude.{flat_map}
+use Rattle.std.proofs.Common.{◌≡◌, ◌∙◌, ℕ, [], length, ap, arith, flat_map}
 use Rattle.std.specs.List.{range_with_len}
-use Rattle.aeth_rtable.specs.Rows.{rows_of_router}
-use Rattle.aeth_rtable.proofs.Lists.{pushed_more}
+use Rattle.aeth_rtable.{specs.Rows.rows_of_router, proofs.Lists.pushed_more}
 use Rattle.aeth_rtable.proofs.rows.rows_by.Goals as goal
 
 -- One more router.

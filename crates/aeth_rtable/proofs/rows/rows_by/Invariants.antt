@@ -1,9 +1,6 @@
-use Rattle.std.proofs.Common.{◌≡◌, List}
-use Rattle.std.specs.Prelude.{flat_map}
+use Rattle.std.proofs.Common.{◌≡◌, List, flat_map}
 use Rattle.std.specs.List.{range_with_len}
-use Rattle.aeth_rtable.specs.Entries.{HasEntries}
-use Rattle.aeth_rtable.specs.Rows.{rows_of_router}
-use Rattle.aeth_rtable.specs.declared.hops.Hop.{Hop}
+use Rattle.aeth_rtable.specs.{Entries.HasEntries, Rows.rows_of_router, declared.hops.Hop.Hop}
 use Rattle.aeth_rtable.proofs.rows.rows_by.Given as goal
 
 -- The rows of the routers so far.

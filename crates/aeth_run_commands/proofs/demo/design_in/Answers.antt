@@ -1,6 +1,4 @@
-use Rattle.std.proofs.Common.{◌∙◌, ap}
-use Rattle.std.specs.Prelude.{codes}
-use Rattle.std.proofs.lemmas.Result.{err_from_is_err_and}
+use Rattle.std.proofs.{Common.◌∙◌, Common.ap, Common.codes, lemmas.Result.err_from_is_err_and}
 use Rattle.aeth_app.specs.AppFile.{app_of}
 use Rattle.aeth_chip.specs.ChipFile.{chip_of}
 use Rattle.aeth_demo.specs.Texts.{TextsData}

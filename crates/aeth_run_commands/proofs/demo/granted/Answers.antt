@@ -1,6 +1,5 @@
 use Rattle.std.proofs.Common.{subst}
-use Rattle.aeth_alloc.specs.Allocation.{OutcomeData}
-use Rattle.aeth_alloc.specs.Prices.{prices_of}
+use Rattle.aeth_alloc.specs.{Allocation.OutcomeData, Prices.prices_of}
 use Rattle.aeth_plan.specs.declared.design.Planned.{Planned}
 use Rattle.aeth_answers.specs.Stop.{Judges}
 use Rattle.aeth_run_commands.specs.Demo.{on_refusals}

@@ -1,9 +1,6 @@
-use Rattle.std.proofs.Common.{◌≤◌, ◌∙◌, ap, arith}
-use Rattle.std.specs.Prelude.{sum_by}
-use Rattle.aeth_report.specs.Limits.{max_total}
-use Rattle.aeth_report.specs.Log.{LogData}
-use Rattle.aeth_machine.specs.Totals.{late_in}
-use Rattle.aeth_machine.proofs.TotalLemmas.{late-le-landings}
+use Rattle.std.proofs.Common.{◌≤◌, ◌∙◌, ap, arith, sum_by}
+use Rattle.aeth_report.specs.{Limits.max_total, Log.LogData}
+use Rattle.aeth_machine.{specs.Totals.late_in, proofs.TotalLemmas.late-le-landings}
 use Rattle.aeth_run_commands.proofs.demo.summary_line.Goals as goal
 
 -- There are no more late landings than landings.

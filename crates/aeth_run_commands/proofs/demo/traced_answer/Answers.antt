@@ -1,9 +1,7 @@
-use Rattle.std.proofs.Common.{arith}
-use Rattle.std.proofs.lemmas.Result.{err_from_is_err_and}
+use Rattle.std.proofs.{Common.arith, lemmas.Result.err_from_is_err_and}
 use Rattle.aeth_demo.specs.Limits.{demo_cycles}
 use Rattle.aeth_group.specs.Members.{groups_of}
-use Rattle.aeth_machine.specs.RunInputs.{inputs_of}
-use Rattle.aeth_machine.specs.declared.traces.Traces.{Traces}
+use Rattle.aeth_machine.specs.{RunInputs.inputs_of, declared.traces.Traces.Traces}
 use Rattle.aeth_tables.specs.Switching.{spans_of}
 use Rattle.aeth_answers.specs.Task.{ends}
 use Rattle.aeth_answers.proofs.FileLemmas.{Answers-done, Answers-stopped, Answers-then}

@@ -1,16 +1,13 @@
-use Rattle.std.proofs.Common.{◌∙◌, [], ap}
-use Rattle.std.specs.Prelude.{codes}
+use Rattle.std.proofs.Common.{◌∙◌, [], ap, codes}
 use Rattle.std.proofs.lemmas.Result.{err_from_is_err_and}
 use Rattle.aeth_demo.specs.Texts.{TextsData}
 use Rattle.aeth_group.specs.Members.{groups_of}
 use Rattle.aeth_tables.specs.Switching.{spans_of}
-use Rattle.aeth_trace.specs.Receivers.{receivers_of}
-use Rattle.aeth_trace.specs.Switches.{switches_of}
-use Rattle.aeth_trace.specs.Words.{words_of}
+use Rattle.aeth_trace.specs.{Receivers.receivers_of, Switches.switches_of, Words.words_of}
 use Rattle.aeth_answers.specs.Files.{judgement}
 use Rattle.aeth_run_files.proofs.RunLemmas.{are_accepted}
-use Rattle.aeth_run_files.proofs.TraceLemmas.{all_three-given, all_three-no_pulls, all_three-no_switches}
-use Rattle.aeth_run_files.proofs.TraceLemmas.{all_three-no_words}
+use Rattle.aeth_run_files.proofs.TraceLemmas.{all_three-given, all_three-no_pulls}
+use Rattle.aeth_run_files.proofs.TraceLemmas.{all_three-no_switches, all_three-no_words}
 use Rattle.aeth_run_commands.proofs.demo.traces_in.Goals as goal
 
 -- There are no words.

@@ -1,7 +1,6 @@
-use Rattle.std.proofs.Common.{◌≡◌, ◌≢◌, ◌∙◌, [], length, ap, refl, sym, arith}
+use Rattle.std.proofs.Common.{◌≡◌, ◌≢◌, ◌∙◌, [], length, ap, refl, sym, arith, eqb-true}
+use Rattle.std.proofs.lemmas.{Bool.eqb-false, List.nil_from_length}
 use Rattle.std.specs.Vec.{vec_len}
-use Rattle.std.proofs.lemmas.Bool.{eqb-false, eqb-true}
-use Rattle.std.proofs.lemmas.List.{nil_from_length}
 use Rattle.aeth_alloc.specs.Allocation.{OutcomeData}
 use Rattle.aeth_answers.specs.Job.{not_granted}
 use Rattle.aeth_design_commands.specs.Allocate.{refusals_text}

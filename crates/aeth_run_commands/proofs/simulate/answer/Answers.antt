@@ -1,7 +1,6 @@
 use Rattle.std.proofs.lemmas.Result.{err_from_is_err_and}
 use Rattle.aeth_report.specs.LogText.{text_of}
-use Rattle.aeth_answers.specs.Places.{files_of}
-use Rattle.aeth_answers.specs.Task.{ends}
+use Rattle.aeth_answers.specs.{Places.files_of, Task.ends}
 use Rattle.aeth_answers.proofs.FileLemmas.{Answers-done, Answers-stopped, Answers-then}
 use Rattle.aeth_run_commands.specs.Simulate.{simulation_job}
 use Rattle.aeth_run_commands.specs.TracedDesigns.{seen_traced, traced_design, traced_inputs}

@@ -1,5 +1,4 @@
-use Rattle.std.specs.Prelude.{codes}
-use Rattle.std.proofs.lemmas.Result.{err_from_is_err_and}
+use Rattle.std.proofs.{Common.codes, lemmas.Result.err_from_is_err_and}
 use Rattle.aeth_trace.specs.Words.{words_of}
 use Rattle.aeth_answers.specs.Places.{files_of}
 use Rattle.aeth_files.proofs.FileLemmas.{file-judged, file-unread}

@@ -1,6 +1,5 @@
-use Rattle.std.specs.Prelude.{codes}
-use Rattle.aeth_trace.specs.Fault.{rule_of}
-use Rattle.aeth_trace.specs.Receivers.{AreReceiversOf, receivers_of}
+use Rattle.std.proofs.Common.{codes}
+use Rattle.aeth_trace.specs.{Fault.rule_of, Receivers.AreReceiversOf, Receivers.receivers_of}
 use Rattle.aeth_answers.proofs.FileLemmas.{HandsOn-keeps, Judges-told}
 use Rattle.aeth_run_files.proofs.files.receivers_in.Goals as goal
 

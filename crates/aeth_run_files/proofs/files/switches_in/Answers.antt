@@ -1,12 +1,9 @@
-use Rattle.std.proofs.Common.{◌≡◌, ◌∙◌, Ok, ap, length, refl}
-use Rattle.std.specs.Prelude.{codes}
+use Rattle.std.proofs.Common.{◌≡◌, ◌∙◌, Ok, ap, length, refl, codes}
 use Rattle.aeth_group.specs.Members.{GroupsData, groups_of}
 use Rattle.aeth_group.proofs.MemberLemmas.{length-groups_of}
 use Rattle.aeth_tables.specs.Switching.{spans_of}
-use Rattle.aeth_trace.specs.Fault.{rule_of}
-use Rattle.aeth_trace.specs.Spans.{SpanData}
-use Rattle.aeth_trace.specs.Switches.{AreSwitchesOf, switches_of}
-use Rattle.aeth_trace.proofs.FileLemmas.{switches_of-kept}
+use Rattle.aeth_trace.{specs.Fault.rule_of, specs.Spans.SpanData, specs.Switches.AreSwitchesOf}
+use Rattle.aeth_trace.{specs.Switches.switches_of, proofs.FileLemmas.switches_of-kept}
 use Rattle.aeth_answers.proofs.FileLemmas.{HandsOn-keeps, Judges-told}
 use Rattle.aeth_run_files.proofs.files.switches_in.Goals as goal
 

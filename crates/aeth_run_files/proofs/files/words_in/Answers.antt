@@ -1,6 +1,5 @@
-use Rattle.std.specs.Prelude.{codes}
-use Rattle.aeth_trace.specs.Fault.{rule_of}
-use Rattle.aeth_trace.specs.Words.{AreWordsOf, words_of}
+use Rattle.std.proofs.Common.{codes}
+use Rattle.aeth_trace.specs.{Fault.rule_of, Words.AreWordsOf, Words.words_of}
 use Rattle.aeth_answers.proofs.FileLemmas.{HandsOn-keeps, Judges-told}
 use Rattle.aeth_run_files.proofs.files.words_in.Goals as goal
 

@@ -1,13 +1,11 @@
-use Rattle.std.proofs.Common.{refl}
-use Rattle.std.proofs.lemmas.Result.{err_from_is_err_and}
+use Rattle.std.proofs.{Common.refl, lemmas.Result.err_from_is_err_and}
 use Rattle.aeth_group.specs.Members.{groups_of}
 use Rattle.aeth_plan.specs.Plan.{PlanData}
 use Rattle.aeth_machine.specs.declared.traces.Traces.{Traces}
 use Rattle.aeth_tables.specs.Switching.{spans_of}
 use Rattle.aeth_answers.specs.Places.{files_of}
 use Rattle.aeth_answers.proofs.FileLemmas.{Judges-made, Judges-stopped}
-use Rattle.aeth_run_files.specs.TraceFiles.{traces_files}
-use Rattle.aeth_run_files.specs.Runs.{RunData, data_of}
+use Rattle.aeth_run_files.specs.{TraceFiles.traces_files, Runs.RunData, Runs.data_of}
 use Rattle.aeth_run_files.proofs.runs.with_traces.Goals as goal
 
 -- A plan with traces.

@@ -1,12 +1,11 @@
-use Rattle.std.proofs.Common.{[]}
-use Rattle.std.proofs.lemmas.Result.{err_from_is_err_and}
+use Rattle.std.proofs.{Common.[], lemmas.Result.err_from_is_err_and}
 use Rattle.aeth_group.specs.Members.{groups_of}
 use Rattle.aeth_tables.specs.Switching.{spans_of}
 use Rattle.aeth_answers.specs.Places.{files_of}
 use Rattle.aeth_run_files.specs.TraceFiles.{receivers_file, switches_file, words_file}
 use Rattle.aeth_run_files.proofs.RunLemmas.{are_accepted}
-use Rattle.aeth_run_files.proofs.TraceLemmas.{all_three-given, all_three-no_pulls, all_three-no_switches}
-use Rattle.aeth_run_files.proofs.TraceLemmas.{all_three-no_words}
+use Rattle.aeth_run_files.proofs.TraceLemmas.{all_three-given, all_three-no_pulls}
+use Rattle.aeth_run_files.proofs.TraceLemmas.{all_three-no_switches, all_three-no_words}
 use Rattle.aeth_run_files.proofs.traces.read_traces.Goals as goal
 
 -- There are no words.

@@ -1,7 +1,6 @@
 use Rattle.std.proofs.Common.{◌+◌, arith}
 use Rattle.aeth_fabric.specs.Fabric.{fabric_of}
-use Rattle.aeth_running.proofs.LosingNothing.{loses-nothing}
-use Rattle.aeth_running.proofs.NetworkWires.{standing}
+use Rattle.aeth_running.proofs.{LosingNothing.loses-nothing, NetworkWires.standing}
 use Rattle.aeth_running.proofs.laws.cycles_lose_nothing.Goals as goal
 
 -- The wires are exact before the cycle and behind it, and the components stand as the private servers say.

@@ -1,6 +1,5 @@
-use Rattle.aeth_running.proofs.RestedNetworks.{components-rest, passes-over}
-use Rattle.aeth_running.proofs.RestingNetworks.{hands-rest}
-use Rattle.aeth_running.proofs.StillTables.{no-enterings}
+use Rattle.aeth_running.proofs.{RestedNetworks.components-rest, RestedNetworks.passes-over}
+use Rattle.aeth_running.proofs.{RestingNetworks.hands-rest, StillTables.no-enterings}
 use Rattle.aeth_running.proofs.laws.still_cycles_rest.Goals as goal
 
 -- Refilling hands nothing on, no component sends, and no receiver takes.

@@ -1,6 +1,5 @@
 use Rattle.std.proofs.Common.{◌+◌, arith}
-use Rattle.aeth_trace.specs.Receivers.{pulls_on}
-use Rattle.aeth_trace.proofs.OrderLemmas.{until_later}
+use Rattle.aeth_trace.{specs.Receivers.pulls_on, proofs.OrderLemmas.until_later}
 use Rattle.aeth_runs_tests.proofs.channels.push_next_pulls.Goals as goal
 
 -- Up to the next cycle there aren't fewer.

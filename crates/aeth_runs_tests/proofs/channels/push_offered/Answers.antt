@@ -1,6 +1,5 @@
 use Rattle.std.proofs.Common.{◌+◌, arith}
-use Rattle.aeth_trace.specs.Words.{words_on}
-use Rattle.aeth_trace.proofs.OrderLemmas.{until_later}
+use Rattle.aeth_trace.{specs.Words.words_on, proofs.OrderLemmas.until_later}
 use Rattle.aeth_runs_tests.proofs.channels.push_offered.Goals as goal
 
 -- Up to the next cycle there aren't fewer.

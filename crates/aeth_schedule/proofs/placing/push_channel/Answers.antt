@@ -1,5 +1,4 @@
-use Rattle.aeth_trace.specs.Words.{words_on}
-use Rattle.aeth_trace.specs.declared.words.WordRow.{WordRow}
+use Rattle.aeth_trace.specs.{Words.words_on, declared.words.WordRow.WordRow}
 use Rattle.aeth_schedule.proofs.Places.{map-take-more}
 use Rattle.aeth_schedule.proofs.placing.push_channel.Goals as goal
 

@@ -1,4 +1,4 @@
-use Rattle.std.proofs.lemmas.List.{append_assoc}
+use Rattle.std.proofs.Common.{append_assoc}
 use Rattle.aeth_base.specs.declared.ids.Side.TheVariants.{Back, Fwd}
 use Rattle.aeth_schedule.specs.Values.{values_on}
 use Rattle.aeth_schedule.proofs.placing.push_connection.Goals as goal

@@ -1,5 +1,4 @@
-use Rattle.std.proofs.Common.{All, take}
-use Rattle.std.specs.Prelude.{IsTrue}
+use Rattle.std.proofs.Common.{All, take, IsTrue}
 use Rattle.aeth_group.specs.Members.{is_kept}
 use Rattle.aeth_scheduling.proofs.closing.stays.Given as goal
 

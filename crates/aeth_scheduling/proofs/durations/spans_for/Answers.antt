@@ -4,8 +4,7 @@ use Rattle.aeth_group.specs.Members.{groups_of}
 use Rattle.aeth_trace.specs.Spans.{SpanData}
 use Rattle.aeth_tables.specs.Switching.{spans_of}
 use Rattle.aeth_accepted.specs.Inputs.{run_of}
-use Rattle.aeth_scheduling.specs.Tasks.{AreSpansFor}
-use Rattle.aeth_scheduling.proofs.ScheduleLemmas.{planned-spans}
+use Rattle.aeth_scheduling.{specs.Tasks.AreSpansFor, proofs.ScheduleLemmas.planned-spans}
 use Rattle.aeth_scheduling.proofs.durations.spans_for.Goals as goal
 
 -- The plan is one of the chip and the application.

@@ -1,10 +1,9 @@
 use Rattle.std.proofs.Common.{◌∙◌, get_or, sym, take}
-use Rattle.std.proofs.lemmas.Bool.{false≢true}
-use Rattle.std.proofs.lemmas.List.{take_more}
+use Rattle.std.proofs.lemmas.{Bool.false≢true, List.take_more}
 use Rattle.aeth_scheduling.proofs.EnteringLemmas.{uses-more, uses-same}
-use Rattle.aeth_scheduling.proofs.entering.uses_of.Goals as goal
 use Rattle.aeth_scheduling.proofs.entering.uses_of.Goals.{else-not-is_among}
 use Rattle.aeth_scheduling.proofs.entering.uses_of.Goals.{then-not-is_among+in_ok-push}
+use Rattle.aeth_scheduling.proofs.entering.uses_of.Goals as goal
 
 -- One row more.
 pub loop-row-preserved : goal.loop-row-preserved

@@ -1,6 +1,5 @@
 use Rattle.std.proofs.Common.{◌≡◌, ◌++◌, map, take}
-use Rattle.aeth_schedule.specs.Goings.{going_in}
-use Rattle.aeth_schedule.specs.Lines.{changed_lines}
+use Rattle.aeth_schedule.specs.{Goings.going_in, Lines.changed_lines}
 use Rattle.aeth_scheduling.proofs.going.push_changed.Given as goal
 
 -- The sessions so far.

@@ -1,8 +1,5 @@
-use Rattle.std.proofs.Common.{arith, refl}
-use Rattle.std.specs.Prelude.{None}
-use Rattle.std.proofs.lemmas.List.{append-nil}
-use Rattle.aeth_schedule.specs.Goings.{going_by}
-use Rattle.aeth_schedule.specs.Lines.{lines_at}
+use Rattle.std.proofs.Common.{arith, refl, None, append-nil}
+use Rattle.aeth_schedule.specs.{Goings.going_by, Lines.lines_at}
 use Rattle.aeth_scheduling.proofs.GoingLemmas.{going-early, going-late}
 use Rattle.aeth_scheduling.proofs.going.push_first.Goals as goal
 

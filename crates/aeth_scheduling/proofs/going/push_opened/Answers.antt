@@ -1,9 +1,6 @@
-use Rattle.std.proofs.Common.{arith, refl}
-use Rattle.std.specs.Prelude.{Some}
-use Rattle.std.proofs.lemmas.List.{append-nil}
+use Rattle.std.proofs.Common.{arith, refl, Some, append-nil}
 use Rattle.aeth_report.specs.Sessions.{go_by}
-use Rattle.aeth_schedule.specs.Goings.{going_by}
-use Rattle.aeth_schedule.specs.Lines.{changed_lines, lines_at}
+use Rattle.aeth_schedule.specs.{Goings.going_by, Lines.changed_lines, Lines.lines_at}
 use Rattle.aeth_scheduling.proofs.GoingLemmas.{going-early, going-late}
 use Rattle.aeth_scheduling.proofs.going.push_opened.Goals as goal
 

@@ -1,7 +1,5 @@
 use Rattle.std.proofs.Common.{◌+◌, ◌-◌, ◌/◌, arith}
-use Rattle.aeth_trace.specs.Channels.{is_channel}
-use Rattle.aeth_trace.specs.Words.{words_on}
-use Rattle.aeth_trace.specs.declared.words.WordRow.{WordRow}
+use Rattle.aeth_trace.specs.{Channels.is_channel, Words.words_on, declared.words.WordRow.WordRow}
 use Rattle.aeth_trace.proofs.OrderLemmas.{rise-filter, until_at, until_few}
 use Rattle.aeth_schedule.proofs.Places.{on-few}
 use Rattle.aeth_scheduling.proofs.placing.offered.Goals as goal

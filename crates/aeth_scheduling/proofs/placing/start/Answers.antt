@@ -1,8 +1,8 @@
 use Rattle.std.proofs.Common.{arith, refl}
 use Rattle.aeth_schedule.proofs.Places.{on-few}
 use Rattle.aeth_scheduling.proofs.Places.{place-at, values-few}
-use Rattle.aeth_scheduling.proofs.placing.start.Goals as goal
 use Rattle.aeth_scheduling.proofs.placing.start.Goals.{in-Fwd, in-Back}
+use Rattle.aeth_scheduling.proofs.placing.start.Goals as goal
 
 -- A channel hasn't too many words.
 pub overflow_cast-ahead : goal.overflow_cast-ahead

@@ -1,5 +1,4 @@
-use Rattle.std.proofs.Common.{arith, sym}
-use Rattle.std.proofs.lemmas.List.FromFn.{map-range_with_len_more}
+use Rattle.std.proofs.{Common.arith, Common.sym, lemmas.List.FromFn.map-range_with_len_more}
 use Rattle.aeth_scheduling.specs.Entered.{lines_if_entered}
 use Rattle.aeth_scheduling.proofs.schedule.entered_lines.Goals as goal
 

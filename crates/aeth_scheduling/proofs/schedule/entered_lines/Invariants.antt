@@ -1,5 +1,4 @@
-use Rattle.std.proofs.Common.{◌≡◌, map}
-use Rattle.std.specs.List.{range_with_len}
+use Rattle.std.{proofs.Common.◌≡◌, proofs.Common.map, specs.List.range_with_len}
 use Rattle.aeth_scheduling.specs.Entered.{lines_if_entered}
 use Rattle.aeth_scheduling.proofs.schedule.entered_lines.Given as goal
 

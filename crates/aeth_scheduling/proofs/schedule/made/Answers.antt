@@ -1,13 +1,12 @@
 use Rattle.std.proofs.Common.{refl}
 use Rattle.aeth_accepted.specs.Inputs.{run_of}
 use Rattle.aeth_group.specs.Members.{groups_of}
-use Rattle.aeth_schedule.specs.Goings.{goings_of}
+use Rattle.aeth_schedule.specs.{Goings.goings_of, Lines.all_lines}
 use Rattle.aeth_schedule.proofs.SwitchRows.{rows-known}
-use Rattle.aeth_schedule.specs.Lines.{all_lines}
 use Rattle.aeth_scheduling.specs.Entered.{entered_lines}
-use Rattle.aeth_scheduling.proofs.ScheduleLemmas.{entered-are, entered-same, goings-by, goings-lines}
-use Rattle.aeth_scheduling.proofs.ScheduleLemmas.{loaded-lines, loaded-same, rows-are, timed-by, timed-lines}
-use Rattle.aeth_scheduling.proofs.ScheduleLemmas.{timed-same, windows-by}
+use Rattle.aeth_scheduling.proofs.ScheduleLemmas.{entered-are, entered-same, goings-by}
+use Rattle.aeth_scheduling.proofs.ScheduleLemmas.{goings-lines, loaded-lines, loaded-same, rows-are}
+use Rattle.aeth_scheduling.proofs.ScheduleLemmas.{timed-by, timed-lines, timed-same, windows-by}
 use Rattle.aeth_scheduling.proofs.schedule.made.Goals as goal
 
 -- Each switch enters a use case that has its channels.

@@ -1,8 +1,6 @@
-use Rattle.std.proofs.Common.{◌≡◌, ◌<◌, ◌++◌, drop, length}
-use Rattle.std.specs.Prelude.{flat_map}
+use Rattle.std.proofs.Common.{◌≡◌, ◌<◌, ◌++◌, drop, length, flat_map}
 use Rattle.aeth_scheduling.specs.Made.{events_over}
-use Rattle.aeth_schedule.specs.Switching.{switches_from}
-use Rattle.aeth_schedule.specs.Timed.{within}
+use Rattle.aeth_schedule.specs.{Switching.switches_from, Timed.within}
 use Rattle.aeth_scheduling.proofs.switching.push_events.Given as goal
 
 -- The events of the switches that are left are still to be appended.

@@ -1,10 +1,7 @@
-use Rattle.std.proofs.Common.{ap, arith, refl}
-use Rattle.std.proofs.lemmas.List.{append-nil}
-use Rattle.aeth_report.specs.Sessions.{close_by}
-use Rattle.aeth_report.specs.declared.session.Close.{Close}
+use Rattle.std.proofs.Common.{ap, arith, refl, append-nil}
+use Rattle.aeth_report.specs.{Sessions.close_by, declared.session.Close.Close}
 use Rattle.aeth_schedule.specs.Lines.{lines_at}
-use Rattle.aeth_scheduling.specs.Made.{changed_rows}
-use Rattle.aeth_scheduling.proofs.Within.{switch-late}
+use Rattle.aeth_scheduling.{specs.Made.changed_rows, proofs.Within.switch-late}
 use Rattle.aeth_scheduling.proofs.switching.push_switch.Goals as goal
 
 -- The switch lies past the end.

@@ -1,8 +1,6 @@
-use Rattle.std.proofs.Common.{arith, refl}
-use Rattle.std.proofs.lemmas.List.{append-nil}
+use Rattle.std.proofs.Common.{arith, refl, append-nil}
 use Rattle.aeth_ni.specs.declared.row.ChannelRow.{ChannelRow}
-use Rattle.aeth_schedule.specs.Lines.{end_of}
-use Rattle.aeth_schedule.specs.Timed.{event_by}
+use Rattle.aeth_schedule.specs.{Lines.end_of, Timed.event_by}
 use Rattle.aeth_scheduling.proofs.Within.{within-early, within-late}
 use Rattle.aeth_scheduling.proofs.timed.push_closing.Goals as goal
 

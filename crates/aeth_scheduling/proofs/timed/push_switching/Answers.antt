@@ -1,5 +1,4 @@
-use Rattle.std.proofs.Common.{◌≡◌, List, subst}
-use Rattle.std.specs.Prelude.{OnOk}
+use Rattle.std.proofs.Common.{◌≡◌, List, subst, OnOk}
 use Rattle.aeth_schedule.specs.Timed.{finishes_at, halts_at, writes_from}
 use Rattle.aeth_schedule.specs.declared.timed.Timed.{Timed}
 use Rattle.aeth_scheduling.proofs.Within.{three-within}

@@ -1,5 +1,4 @@
-use Rattle.std.proofs.Common.{◌++◌, ◌∙◌, ap, arith, sym}
-use Rattle.std.proofs.lemmas.List.{append-nil}
+use Rattle.std.proofs.Common.{◌++◌, ◌∙◌, ap, arith, sym, append-nil}
 use Rattle.aeth_scheduling.proofs.Within.{writes-late}
 use Rattle.aeth_scheduling.proofs.timed.push_writes.Goals as goal
 

@@ -1,6 +1,5 @@
 use Rattle.std.proofs.Common.{◌≡◌, ◌<◌, ◌++◌, drop, length, map}
-use Rattle.aeth_schedule.specs.Switching.{switches_from}
-use Rattle.aeth_schedule.specs.Windows.{window_by}
+use Rattle.aeth_schedule.specs.{Switching.switches_from, Windows.window_by}
 use Rattle.aeth_scheduling.proofs.windows.push_windows.Given as goal
 
 -- The windows of the switches that are left are still to be appended.

@@ -1,5 +1,6 @@
-use Rattle.std.proofs.Common.{◌∙◌, ◌++◌, ◌∷◌, [], length, map, take, sym, ap, arith}
-use Rattle.std.proofs.lemmas.List.{length-map, length-take, map-append, take_all, take_more}
+use Rattle.std.proofs.Common.{◌∙◌, ◌++◌, ◌∷◌, [], length, map, take, sym, ap, arith, length-take}
+use Rattle.std.proofs.Common.{take_all}
+use Rattle.std.proofs.lemmas.List.{length-map, map-append, take_more}
 use Rattle.std.proofs.lemmas.Option.{get_or_from_slice_get, slice_get_within}
 use Rattle.aeth_app.specs.declared.connection.Core.{Core}
 use Rattle.aeth_seats.proofs.first.fixed_of.Goals as goal

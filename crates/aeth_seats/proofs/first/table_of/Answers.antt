@@ -1,11 +1,11 @@
-use Rattle.std.proofs.Common.{◌∙◌, List, Option, None, Some, length, ap, arith, subst}
-use Rattle.std.proofs.Common.{replicate, sym, ◌+◌}
+use Rattle.std.proofs.Common.{◌∙◌, List, Option, None, Some, length, ap, arith, subst, replicate}
+use Rattle.std.proofs.Common.{sym, ◌+◌}
 use Rattle.std.proofs.lemmas.Option.{slice_get-get_or}
 use Rattle.aeth_base.specs.declared.ids.NiId.{NiId}
 use Rattle.aeth_seats.specs.Table.{TableData}
 use Rattle.aeth_seats.proofs.SeatingLemmas.{IsSeating, seating-more, seating-all, seating-none}
-use Rattle.aeth_seats.proofs.first.table_of.Goals as goal
 use Rattle.aeth_seats.proofs.first.table_of.Goals.{in-Some, in_default}
+use Rattle.aeth_seats.proofs.first.table_of.Goals as goal
 
 -- Nobody is seated yet.
 pub loop-core-init : goal.loop-core-init

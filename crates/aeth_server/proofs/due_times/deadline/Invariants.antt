@@ -1,7 +1,5 @@
 use Rattle.std.proofs.Common.{◌≡◌}
-use Rattle.aeth_server.specs.ChannelShape.{shape_of}
-use Rattle.aeth_server.specs.Progress.{progress_of}
-use Rattle.aeth_server.specs.Shape.{channel_latency}
+use Rattle.aeth_server.specs.{ChannelShape.shape_of, Progress.progress_of, Shape.channel_latency}
 use Rattle.aeth_server.proofs.due_times.deadline.Given as goal
 
 abbrev pub invariant-loop-word : goal.invariant-loop-word

@@ -1,6 +1,5 @@
 use Rattle.std.proofs.Common.{◌%◌, ◌<◌, ℕ, Contains, subst, arith}
-use Rattle.aeth_slots.specs.SlotSet.{IsNextSlot}
-use Rattle.aeth_slots.proofs.Ascending.{Ascends-bounds}
+use Rattle.aeth_slots.{specs.SlotSet.IsNextSlot, proofs.Ascending.Ascends-bounds}
 use Rattle.aeth_server.proofs.NextCycles.{next-near, next-past}
 use Rattle.aeth_server.proofs.slot_cycles.next_slot.Goals as goal
 

@@ -1,7 +1,6 @@
 use Rattle.std.proofs.Common.{◌≡◌, ◌+◌, ◌-◌, max, sym, subst, arith}
 use Rattle.std.proofs.lemmas.Bool.{both_ways}
-use Rattle.aeth_slots.specs.Choice.{IsChosen}
-use Rattle.aeth_slots.specs.Ways.{HasRound}
+use Rattle.aeth_slots.specs.{Choice.IsChosen, Ways.HasRound}
 use Rattle.aeth_slots.proofs.ChoiceLemmas.{chosen-is, chosen-nothing, whole-suitable}
 use Rattle.aeth_slots.proofs.RoundSearch.{round_needed, round_chosen}
 use Rattle.aeth_slots.proofs.choice.choose.Goals as goal

@@ -1,5 +1,4 @@
-use Rattle.std.proofs.Common.{◌≡◌, ◌∙◌, arith, refl, subst}
-use Rattle.std.proofs.lemmas.List.{length-set}
+use Rattle.std.proofs.Common.{◌≡◌, ◌∙◌, arith, refl, subst, length-set}
 use Rattle.aeth_slots.specs.Ways.{AreEarliest}
 use Rattle.aeth_slots.proofs.EarliestSlots.{earliest_more, earliest_none, earliest_put, none_near}
 use Rattle.aeth_slots.proofs.choice.earliest_slots.Goals as goal

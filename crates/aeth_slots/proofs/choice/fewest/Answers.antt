@@ -1,9 +1,8 @@
 use Rattle.std.proofs.Common.{◌+◌, ◌-◌, ◌∙◌, ap, inl, inr, arith}
 use Rattle.std.proofs.lemmas.Bool.{cases_lt}
-use Rattle.aeth_slots.proofs.EarliestSlots.{none_near, earliest_none, earliest_more}
-use Rattle.aeth_slots.proofs.Ways.{way_short}
-use Rattle.aeth_slots.proofs.Rounds.{free_below}
-use Rattle.aeth_slots.proofs.RoundSearch.{fewest_more, none_crosses}
+use Rattle.aeth_slots.proofs.{EarliestSlots.none_near, EarliestSlots.earliest_none}
+use Rattle.aeth_slots.proofs.{EarliestSlots.earliest_more, Ways.way_short, Rounds.free_below}
+use Rattle.aeth_slots.proofs.{RoundSearch.fewest_more, RoundSearch.none_crosses}
 use Rattle.aeth_slots.proofs.choice.fewest.Goals as goal
 
 -- No free slot is near enough to the end.

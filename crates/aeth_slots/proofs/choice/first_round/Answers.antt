@@ -1,9 +1,7 @@
 use Rattle.std.proofs.Common.{ℕ, ◌≡◌, ◌∙◌, ◌+◌, ◌-◌, ap, subst, arith}
-use Rattle.aeth_slots.specs.SlotSet.{Slots}
-use Rattle.aeth_slots.specs.Ways.{IsEarliest}
+use Rattle.aeth_slots.specs.{SlotSet.Slots, Ways.IsEarliest}
 use Rattle.aeth_slots.proofs.Rounds.{free_below}
-use Rattle.aeth_slots.proofs.FirstRound.{round_ends, round_goes_on, round_has_next}
-use Rattle.aeth_slots.proofs.FirstRound.{round_short}
+use Rattle.aeth_slots.proofs.FirstRound.{round_ends, round_goes_on, round_has_next, round_short}
 use Rattle.aeth_slots.proofs.WaySearch.{next_on_way, none_on_way}
 use Rattle.aeth_slots.proofs.choice.first_round.Goals as goal
 

@@ -1,6 +1,5 @@
 use Rattle.aeth_group.specs.Members.{groups_of}
-use Rattle.aeth_stimuli.proofs.CycleEvents.{are-events}
-use Rattle.aeth_stimuli.proofs.FirstEvents.{loaded-are}
+use Rattle.aeth_stimuli.proofs.{CycleEvents.are-events, FirstEvents.loaded-are}
 use Rattle.aeth_stimuli.proofs.laws.events_are_events.Goals as goal
 
 -- Switch by switch, and channel by channel; the spans are those of the plan.

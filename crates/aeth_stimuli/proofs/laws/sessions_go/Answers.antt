@@ -1,6 +1,5 @@
-use Rattle.aeth_stimuli.proofs.GoingLists.{goings-ordered}
-use Rattle.aeth_stimuli.proofs.SessionGoings.{goings-are}
-use Rattle.aeth_stimuli.proofs.StimuliFit.{goings-known}
+use Rattle.aeth_stimuli.proofs.{GoingLists.goings-ordered, SessionGoings.goings-are}
+use Rattle.aeth_stimuli.proofs.{StimuliFit.goings-known}
 use Rattle.aeth_stimuli.proofs.laws.sessions_go.Goals as goal
 
 -- Each row of switches opens the sessions of the lines that it doesn't keep, and a channel has one line.

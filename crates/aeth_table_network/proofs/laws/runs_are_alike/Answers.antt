@@ -1,11 +1,10 @@
 use Rattle.std.proofs.Common.{◌≡◌, ◌∙◌, ◌+◌, ◌-◌, ap, arith, inl, inr, subst, sym}
-use Rattle.std.specs.Option.{option_to_list}
 use Rattle.std.proofs.lemmas.Bool.{cases_lt}
+use Rattle.std.specs.Option.{option_to_list}
 use Rattle.aeth_chip.specs.Wires.{wire_at}
 use Rattle.aeth_clocked.specs.Wires.{flit_on}
 use Rattle.aeth_running.proofs.RouterTables.{headers-route}
-use Rattle.aeth_running.specs.Network.{first_network, played}
-use Rattle.aeth_running.specs.Routing.{ByHeaders}
+use Rattle.aeth_running.specs.{Network.first_network, Network.played, Routing.ByHeaders}
 use Rattle.aeth_table_network.specs.Tables.{tables_of}
 use Rattle.aeth_table_network.proofs.laws.runs_are_alike.Goals as goal
 

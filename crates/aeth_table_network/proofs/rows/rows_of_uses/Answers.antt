@@ -1,5 +1,4 @@
-use Rattle.std.proofs.Common.{arith, sym}
-use Rattle.std.proofs.lemmas.List.FromFn.{map-range_with_len_more}
+use Rattle.std.proofs.{Common.arith, Common.sym, lemmas.List.FromFn.map-range_with_len_more}
 use Rattle.aeth_table_network.specs.Tables.{rows_of_use}
 use Rattle.aeth_table_network.proofs.rows.rows_of_uses.Goals as goal
 

@@ -1,5 +1,4 @@
-use Rattle.std.proofs.Common.{◌≡◌, map}
-use Rattle.std.specs.List.{range_with_len}
+use Rattle.std.{proofs.Common.◌≡◌, proofs.Common.map, specs.List.range_with_len}
 use Rattle.aeth_table_network.specs.Tables.{rows_of_use}
 use Rattle.aeth_table_network.proofs.rows.rows_of_uses.Given as goal
 

@@ -1,6 +1,5 @@
 use Rattle.std.proofs.Common.{◌≡◌, ◌∙◌, List, ap, length}
-use Rattle.std.proofs.lemmas.List.FromFn.{length-map-range_with_len}
-use Rattle.std.proofs.lemmas.Result.{IfOk-weaker}
+use Rattle.std.proofs.lemmas.{List.FromFn.length-map-range_with_len, Result.IfOk-weaker}
 use Rattle.aeth_router.specs.declared.router_row.RouterRow.{RouterRow}
 use Rattle.aeth_accepted.specs.Inputs.{run_of}
 use Rattle.aeth_running.specs.Routing.{Routing}

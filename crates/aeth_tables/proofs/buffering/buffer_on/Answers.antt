@@ -1,6 +1,5 @@
 use Rattle.std.proofs.Common.{sym, subst}
-use Rattle.aeth_server.specs.ChannelShape.{IsShapeInRange}
-use Rattle.aeth_server.specs.declared.shape.ChannelShape.{ChannelShape}
+use Rattle.aeth_server.specs.{ChannelShape.IsShapeInRange, declared.shape.ChannelShape.ChannelShape}
 use Rattle.aeth_tables.proofs.ShapeRanges.{shape_in_range}
 use Rattle.aeth_tables.proofs.buffering.buffer_on.Goals as goal
 

@@ -1,9 +1,8 @@
-use Rattle.std.proofs.Common.{◌∙◌, ◌++◌, ap, arith, sym}
-use Rattle.std.specs.Prelude.{flat_map}
+use Rattle.std.proofs.Common.{◌∙◌, ◌++◌, ap, arith, sym, flat_map}
 use Rattle.std.specs.List.{range_with_len}
 use Rattle.aeth_tables.specs.Buffers.{buffers_in, buffers_of}
-use Rattle.aeth_plan.proofs.DesignLaws.{design_of}
 use Rattle.aeth_tables.proofs.TextLaws.{flat_map-more}
+use Rattle.aeth_plan.proofs.DesignLaws.{design_of}
 use Rattle.aeth_tables.proofs.buffering.buffers.Goals as goal
 
 -- The plan is one of the chip and the application.

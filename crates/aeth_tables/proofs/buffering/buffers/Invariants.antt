@@ -1,6 +1,4 @@
-use Rattle.std.proofs.Common.{◌≡◌}
-use Rattle.std.specs.Prelude.{flat_map}
-use Rattle.std.specs.List.{range_with_len}
+use Rattle.std.{proofs.Common.◌≡◌, proofs.Common.flat_map, specs.List.range_with_len}
 use Rattle.aeth_tables.specs.Buffers.{buffers_in}
 use Rattle.aeth_tables.proofs.buffering.buffers.Given as goal
 

@@ -1,9 +1,6 @@
-use Rattle.std.proofs.Common.{◌∙◌, ◌++◌, ap, arith, sym}
-use Rattle.std.specs.Prelude.{flat_map}
+use Rattle.std.proofs.Common.{◌∙◌, ◌++◌, ap, arith, sym, flat_map, append_assoc}
 use Rattle.std.specs.List.{range_with_len}
-use Rattle.std.proofs.lemmas.List.{append_assoc}
-use Rattle.aeth_tables.specs.Buffers.{buffers_for}
-use Rattle.aeth_tables.proofs.TextLaws.{flat_map-more}
+use Rattle.aeth_tables.{specs.Buffers.buffers_for, proofs.TextLaws.flat_map-more}
 use Rattle.aeth_tables.proofs.buffering.push_connection.Goals as goal
 
 -- One more group.

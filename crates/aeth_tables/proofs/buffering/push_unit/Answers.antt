@@ -1,6 +1,5 @@
 use Rattle.std.proofs.Common.{◌∙◌, sym}
-use Rattle.aeth_tables.proofs.ReservedLaws.{made_of}
-use Rattle.aeth_tables.proofs.UseLaws.{reserved_from_made}
+use Rattle.aeth_tables.proofs.{ReservedLaws.made_of, UseLaws.reserved_from_made}
 use Rattle.aeth_tables.proofs.buffering.push_unit.Goals as goal
 
 -- The connection has the seats and grants that it must.

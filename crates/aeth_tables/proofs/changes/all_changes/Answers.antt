@@ -1,7 +1,6 @@
 use Rattle.std.proofs.Common.{ℕ, map, sym, arith}
 use Rattle.std.proofs.lemmas.List.FromFn.{map-range_with_len_more}
-use Rattle.aeth_tables.specs.Changes.{change_of}
-use Rattle.aeth_tables.specs.Granted.{granted_in}
+use Rattle.aeth_tables.specs.{Changes.change_of, Granted.granted_in}
 use Rattle.aeth_tables.proofs.changes.all_changes.Goals as goal
 
 -- One more use case.

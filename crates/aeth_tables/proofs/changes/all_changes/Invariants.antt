@@ -1,7 +1,5 @@
-use Rattle.std.proofs.Common.{◌≡◌, map}
-use Rattle.std.specs.List.{range_with_len}
-use Rattle.aeth_tables.specs.Changes.{change_of}
-use Rattle.aeth_tables.specs.Granted.{granted_in}
+use Rattle.std.{proofs.Common.◌≡◌, proofs.Common.map, specs.List.range_with_len}
+use Rattle.aeth_tables.specs.{Changes.change_of, Granted.granted_in}
 use Rattle.aeth_tables.proofs.changes.all_changes.Given as goal
 
 -- The changes of the use cases so far.

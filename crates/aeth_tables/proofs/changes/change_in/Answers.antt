@@ -1,8 +1,7 @@
 use Rattle.std.proofs.Common.{All, List, sym, subst}
 use Rattle.aeth_base.specs.declared.ids.Side.TheVariants.{Back, Fwd}
 use Rattle.aeth_group.specs.declared.grant.Grant.{Grant}
-use Rattle.aeth_tables.specs.Changes.{HasLinks}
-use Rattle.aeth_tables.proofs.GrantedLists.{found_links}
+use Rattle.aeth_tables.{specs.Changes.HasLinks, proofs.GrantedLists.found_links}
 use Rattle.aeth_tables.proofs.changes.change_in.Goals as goal
 
 -- The paths of the grants are those of the chip.

@@ -1,7 +1,7 @@
 use Rattle.std.proofs.Common.{◌∙◌, ◌≤◌, ◌+◌, ℕ, All, get_or, length, max, take, sym, ap, subst}
-use Rattle.std.proofs.Common.{arith}
+use Rattle.std.proofs.Common.{arith, take_all}
+use Rattle.std.proofs.lemmas.List.{take_more}
 use Rattle.aeth_base.proofs.ExtremeLemmas.{ord_max-nat}
-use Rattle.std.proofs.lemmas.List.{take_all, take_more}
 use Rattle.aeth_tables.specs.Changes.{lag_in, most_writes, writes_in}
 use Rattle.aeth_tables.specs.declared.changes.Change.{Change}
 use Rattle.aeth_tables.proofs.ChangeLaws.{lag_in-push, writes_in-push}

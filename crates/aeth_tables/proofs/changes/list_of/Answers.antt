@@ -1,17 +1,14 @@
 use Rattle.std.proofs.Common.{◌≡◌, ◌∙◌, ◌≤◌, ℕ, All, List, Option, filter, length, map, sym, ap}
-use Rattle.std.proofs.Common.{arith, subst}
-use Rattle.std.specs.Prelude.{IfSome, option_map}
+use Rattle.std.proofs.Common.{arith, subst, IfSome, option_map}
+use Rattle.std.proofs.lemmas.List.{length-map, Elements.All-push}
 use Rattle.std.specs.List.{filter_map, range_with_len}
-use Rattle.std.proofs.lemmas.List.{length-map}
-use Rattle.std.proofs.lemmas.List.Elements.{All-push}
 use Rattle.aeth_chip.specs.Chip.{ChipData}
 use Rattle.aeth_app.specs.App.{AppData}
 use Rattle.aeth_group.specs.Members.{GroupsData, group_at, has_at}
 use Rattle.aeth_group.proofs.MemberLemmas.{connections-groups_of}
 use Rattle.aeth_plan.specs.Plan.{PlanData}
-use Rattle.aeth_tables.specs.Changes.{change_of, most_writes}
-use Rattle.aeth_tables.specs.Granted.{granted_in, granted_of}
-use Rattle.aeth_tables.specs.declared.changes.Change.{Change}
+use Rattle.aeth_tables.specs.{Changes.change_of, Changes.most_writes, Granted.granted_in}
+use Rattle.aeth_tables.specs.{Granted.granted_of, declared.changes.Change.Change}
 use Rattle.aeth_tables.proofs.GrantedLists.{given-map, given-none, given-not, given-some}
 use Rattle.aeth_tables.proofs.GrantedLists.{granted_few, plan_links}
 use Rattle.aeth_tables.proofs.changes.list_of.Goals.{else-has, then-has+in-Some+in_ok-push}

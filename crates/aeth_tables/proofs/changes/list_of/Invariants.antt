@@ -1,9 +1,7 @@
-use Rattle.std.proofs.Common.{◌≡◌, ◌≤◌, All, filter}
-use Rattle.std.specs.Prelude.{option_map}
+use Rattle.std.proofs.Common.{◌≡◌, ◌≤◌, All, filter, option_map}
 use Rattle.std.specs.List.{filter_map, range_with_len}
 use Rattle.aeth_group.specs.Members.{group_at, has_at}
-use Rattle.aeth_tables.specs.Changes.{change_of, most_writes}
-use Rattle.aeth_tables.specs.Granted.{granted_of}
+use Rattle.aeth_tables.specs.{Changes.change_of, Changes.most_writes, Granted.granted_of}
 use Rattle.aeth_tables.proofs.changes.list_of.Given as goal
 
 -- The changes of the connections so far.

@@ -1,15 +1,12 @@
-use Rattle.std.proofs.Common.{◌≡◌, ◌∙◌, ◌++◌, [], ℕ, false, sym, ap, arith}
-use Rattle.std.specs.Prelude.{flat_map, unwrap_or}
-use Rattle.std.specs.List.{range_with_len}
+use Rattle.std.proofs.Common.{◌≡◌, ◌∙◌, ◌++◌, [], ℕ, false, sym, ap, arith, flat_map, unwrap_or}
+use Rattle.std.proofs.Common.{append-nil}
 use Rattle.std.proofs.lemmas.Bool.{false_from_ne_true, false≢true}
-use Rattle.std.proofs.lemmas.List.{append-nil}
+use Rattle.std.specs.List.{range_with_len}
 use Rattle.aeth_plan.specs.Plan.{name_at}
-use Rattle.aeth_slots.specs.SlotSet.{has_slot}
-use Rattle.aeth_slots.proofs.TestLemmas.{has_slot-Decides}
+use Rattle.aeth_slots.{specs.SlotSet.has_slot, proofs.TestLemmas.has_slot-Decides}
 use Rattle.aeth_text.specs.Spelling.{text_of_lines}
-use Rattle.aeth_tables.specs.Lines.{entry_line}
-use Rattle.aeth_tables.specs.TableText.{lines_of_slot}
-use Rattle.aeth_tables.specs.declared.promised.PromisedRow.{PromisedRow}
+use Rattle.aeth_tables.specs.{Lines.entry_line, TableText.lines_of_slot}
+use Rattle.aeth_tables.specs.{declared.promised.PromisedRow.PromisedRow}
 use Rattle.aeth_tables.proofs.TextLaws.{lines_more, lines_more_of, printed-none}
 use Rattle.aeth_tables.proofs.entries.push_entries_at.Goals.{else-has, then-has+in_ok-push_slot}
 use Rattle.aeth_tables.proofs.entries.push_entries_at.Goals as goal

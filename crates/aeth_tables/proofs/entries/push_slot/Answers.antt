@@ -1,9 +1,7 @@
 use Rattle.std.proofs.Common.{◌∙◌, ap, sym}
 use Rattle.std.proofs.lemmas.Bool.{false_from_ne_true, false≢true}
-use Rattle.aeth_slots.specs.SlotSet.{has_slot}
-use Rattle.aeth_slots.proofs.TestLemmas.{has_slot-Decides}
-use Rattle.aeth_tables.specs.Lines.{entry_line}
-use Rattle.aeth_tables.specs.declared.promised.PromisedRow.{PromisedRow}
+use Rattle.aeth_slots.{specs.SlotSet.has_slot, proofs.TestLemmas.has_slot-Decides}
+use Rattle.aeth_tables.specs.{Lines.entry_line, declared.promised.PromisedRow.PromisedRow}
 use Rattle.aeth_tables.proofs.TextLaws.{printed-fails, printed-passes}
 use Rattle.aeth_tables.proofs.entries.push_slot.Goals.{else-has, then-has+in_ok-push_entry}
 use Rattle.aeth_tables.proofs.entries.push_slot.Goals as goal

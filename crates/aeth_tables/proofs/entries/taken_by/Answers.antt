@@ -1,9 +1,7 @@
-use Rattle.std.proofs.Common.{◌∙◌, ◌++◌, ◌∷◌, [], Bool, take, sym, ap, arith}
-use Rattle.std.specs.Prelude.{◌||◌}
-use Rattle.std.specs.List.{list_any}
+use Rattle.std.proofs.Common.{◌∙◌, ◌++◌, ◌∷◌, [], Bool, take, sym, ap, arith, ◌||◌}
 use Rattle.std.proofs.Math.Bool.{or-false}
-use Rattle.std.proofs.lemmas.List.{take_more}
-use Rattle.std.proofs.lemmas.List.Folds.{list_any-append}
+use Rattle.std.proofs.lemmas.List.{take_more, Folds.list_any-append}
+use Rattle.std.specs.List.{list_any}
 use Rattle.aeth_slots.specs.SlotSet.{Slots, has_slot}
 use Rattle.aeth_slots.proofs.TestLemmas.{has_slot-where}
 use Rattle.aeth_tables.specs.declared.promised.PromisedRow.{PromisedRow}

@@ -1,5 +1,4 @@
-use Rattle.std.proofs.Common.{rules}
-use Rattle.std.proofs.lemmas.List.Sorted.{IsPartitionPoint-from_clause}
+use Rattle.std.proofs.{Common.rules, lemmas.List.Sorted.IsPartitionPoint-from_clause}
 use Rattle.aeth_plan.specs.UnitGrants.{is_before}
 use Rattle.aeth_tables.proofs.SearchLaws.{before-first}
 use Rattle.aeth_tables.proofs.finding.grants_before.Goals as goal

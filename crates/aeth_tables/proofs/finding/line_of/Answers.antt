@@ -1,5 +1,4 @@
-use Rattle.std.proofs.Common.{◌∙◌, length, refl, sym}
-use Rattle.std.proofs.lemmas.Bool.{eq-eqb}
+use Rattle.std.proofs.Common.{◌∙◌, length, refl, sym, eq-eqb}
 use Rattle.std.proofs.lemmas.Option.{slice_get-get_or, slice_get_read}
 use Rattle.aeth_tables.proofs.SearchLaws.{seat-only, seat-past, seat-there}
 use Rattle.aeth_tables.proofs.finding.line_of.Goals as goal

@@ -1,6 +1,4 @@
-use Rattle.std.proofs.Common.{rules}
-use Rattle.std.proofs.lemmas.List.Sorted.{IsPartitionPoint-from_clause}
-use Rattle.std.specs.Prelude.{nat_lt}
+use Rattle.std.proofs.{Common.rules, Common.nat_lt, lemmas.List.Sorted.IsPartitionPoint-from_clause}
 use Rattle.aeth_group.specs.declared.grant.SeatLine.{SeatLine}
 use Rattle.aeth_tables.proofs.SearchLaws.{seats-first}
 use Rattle.aeth_tables.proofs.finding.seats_before.Goals as goal

@@ -3,13 +3,11 @@ use Rattle.std.proofs.lemmas.Result.{IfOk-weaker}
 use Rattle.aeth_base.specs.declared.ids.UseId.{UseId}
 use Rattle.aeth_chip.specs.Chip.{ChipData}
 use Rattle.aeth_app.specs.App.{AppData}
-use Rattle.aeth_group.specs.Members.{GroupsData}
-use Rattle.aeth_group.proofs.MemberLemmas.{length-groups_of}
+use Rattle.aeth_group.{specs.Members.GroupsData, proofs.MemberLemmas.length-groups_of}
 use Rattle.aeth_plan.specs.Plan.{PlanData}
-use Rattle.aeth_tables.specs.Granted.{granted_in}
-use Rattle.aeth_tables.specs.TableText.{IsPrintable}
-use Rattle.aeth_tables.specs.Tables.{TablesData, tables_of, tables_with}
-use Rattle.aeth_tables.specs.declared.granted.GrantedConnection.{GrantedConnection}
+use Rattle.aeth_tables.specs.{Granted.granted_in, TableText.IsPrintable, Tables.TablesData}
+use Rattle.aeth_tables.specs.{Tables.tables_of, Tables.tables_with}
+use Rattle.aeth_tables.specs.{declared.granted.GrantedConnection.GrantedConnection}
 use Rattle.aeth_tables.proofs.DesignLaws.{all_reserved, are_to_print}
 use Rattle.aeth_tables.proofs.making.tables.Goals as goal
 

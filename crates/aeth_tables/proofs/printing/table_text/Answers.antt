@@ -1,7 +1,6 @@
 use Rattle.std.proofs.Common.{◌∙◌, All, sym, ap, subst}
-use Rattle.aeth_tables.specs.TableText.{IsRowOf}
-use Rattle.aeth_tables.specs.Tables.{TablesData}
-use Rattle.aeth_tables.specs.declared.promised.PromisedRow.{PromisedRow}
+use Rattle.aeth_tables.specs.{TableText.IsRowOf, Tables.TablesData}
+use Rattle.aeth_tables.specs.{declared.promised.PromisedRow.PromisedRow}
 use Rattle.aeth_tables.proofs.TextLaws.{all_promised}
 use Rattle.aeth_tables.proofs.printing.table_text.Goals as goal
 

@@ -1,16 +1,14 @@
-use Rattle.std.proofs.Common.{◌≡◌, ◌∙◌, ◌++◌, ℕ, List, All, length, sym, ap, subst}
-use Rattle.std.specs.Prelude.{◌==◌, codes}
+use Rattle.std.proofs.Common.{◌≡◌, ◌∙◌, ◌++◌, ℕ, List, All, length, sym, ap, subst, ◌==◌, codes}
 use Rattle.std.proofs.lemmas.List.Elements.{All-filter}
 use Rattle.aeth_plan.specs.Plan.{name_at}
 use Rattle.aeth_text.specs.Spelling.{ended_line, text_of_lines}
 use Rattle.aeth_trace.specs.Switches.{use_names}
 use Rattle.aeth_tables.specs.Lines.{head_line}
-use Rattle.aeth_tables.specs.TableText.{AreOwn, HasTableOf, NamesConnection, entries_with, entry_lines}
-use Rattle.aeth_tables.specs.TableText.{listed_entries, listed_queues, queue_lines}
+use Rattle.aeth_tables.specs.TableText.{AreOwn, HasTableOf, NamesConnection, entries_with}
+use Rattle.aeth_tables.specs.TableText.{entry_lines, listed_entries, listed_queues, queue_lines}
 use Rattle.aeth_tables.specs.TableText.{queues_with}
 use Rattle.aeth_tables.specs.declared.promised.PromisedRow.{PromisedRow}
-use Rattle.aeth_tables.proofs.OwnRows.{Lists, listed}
-use Rattle.aeth_tables.proofs.TextLaws.{text-all}
+use Rattle.aeth_tables.proofs.{OwnRows.Lists, OwnRows.listed, TextLaws.text-all}
 use Rattle.aeth_tables.proofs.printing.text_of_rows.Goals as goal
 
 own_of : (nis count : ℕ) (rows : List PromisedRow) (lists shown : Lists) → count ≡ nis

@@ -1,8 +1,6 @@
 use Rattle.std.proofs.Common.{◌∙◌, ◌++◌, ◌∷◌, [], ap, arith}
-use Rattle.std.specs.declared.alloc.Global.{Global}
-use Rattle.std.specs.declared.vec.Vec.{Vec}
-use Rattle.aeth_tables.specs.declared.promised.PromisedRow.{PromisedRow}
-use Rattle.aeth_tables.proofs.OwnRows.{put-own}
+use Rattle.std.specs.declared.{alloc.Global.Global, vec.Vec.Vec}
+use Rattle.aeth_tables.{specs.declared.promised.PromisedRow.PromisedRow, proofs.OwnRows.put-own}
 use Rattle.aeth_tables.proofs.promised.put_row.Goals as goal
 
 -- The row stands at the end of the list of its interface.

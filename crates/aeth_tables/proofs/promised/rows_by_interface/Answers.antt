@@ -1,7 +1,6 @@
 use Rattle.std.proofs.Common.{◌∙◌, ◌++◌, ◌∷◌, [], take, sym, ap, arith}
 use Rattle.std.proofs.lemmas.List.{take_more}
-use Rattle.aeth_tables.specs.TableText.{rows_at}
-use Rattle.aeth_tables.specs.declared.promised.PromisedRow.{PromisedRow}
+use Rattle.aeth_tables.specs.{TableText.rows_at, declared.promised.PromisedRow.PromisedRow}
 use Rattle.aeth_tables.proofs.OwnRows.{own-more}
 use Rattle.aeth_tables.proofs.promised.rows_by_interface.Goals as goal
 

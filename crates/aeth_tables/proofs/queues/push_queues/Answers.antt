@@ -1,8 +1,7 @@
 use Rattle.std.proofs.Common.{◌∙◌, ◌++◌, All, sym, ap, subst, arith}
 use Rattle.aeth_text.specs.Spelling.{text_of_lines}
 use Rattle.aeth_tables.specs.TableText.{NamesConnection, queues_with, list_at}
-use Rattle.aeth_tables.proofs.OwnRows.{list-own}
-use Rattle.aeth_tables.proofs.TextLaws.{lines_more}
+use Rattle.aeth_tables.proofs.{OwnRows.list-own, TextLaws.lines_more}
 use Rattle.aeth_tables.proofs.queues.push_queues.Goals as goal
 
 pub push_queues_at-requires-clause-rows : goal.push_queues_at-requires-clause-rows

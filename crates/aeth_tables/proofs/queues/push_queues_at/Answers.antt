@@ -1,5 +1,4 @@
-use Rattle.std.proofs.Common.{◌≡◌, ◌∙◌, ◌++◌, [], ℕ, sym, ap, arith}
-use Rattle.std.specs.Prelude.{flat_map, unwrap_or}
+use Rattle.std.proofs.Common.{◌≡◌, ◌∙◌, ◌++◌, [], ℕ, sym, ap, arith, flat_map, unwrap_or}
 use Rattle.std.specs.List.{range_with_len}
 use Rattle.aeth_plan.specs.Plan.{name_at}
 use Rattle.aeth_text.specs.Spelling.{text_of_lines}

@@ -1,8 +1,7 @@
 use Rattle.std.proofs.Common.{◌≡◌, ◌∙◌, ◌+◌, ◌-◌, ℕ, List, drop, map, ap, arith}
 use Rattle.aeth_base.specs.declared.ids.LinkId.{LinkId}
 use Rattle.aeth_header.specs.Route.{route_of}
-use Rattle.aeth_tables.specs.Routes.{port_of}
-use Rattle.aeth_tables.proofs.PortLaws.{drop-end, route-more}
+use Rattle.aeth_tables.{specs.Routes.port_of, proofs.PortLaws.drop-end, proofs.PortLaws.route-more}
 use Rattle.aeth_tables.proofs.route.route_along.Goals as goal
 
 -- One more link.

@@ -1,12 +1,8 @@
 use Rattle.std.proofs.Common.{All, drop, sym, subst}
 use Rattle.aeth_group.specs.declared.grant.Grant.{Grant}
-use Rattle.aeth_server.specs.ChannelShape.{IsShapeInRange}
-use Rattle.aeth_server.specs.declared.shape.ChannelShape.{ChannelShape}
-use Rattle.aeth_tables.specs.Granted.{grant_on}
-use Rattle.aeth_tables.specs.Routes.{IsSent}
-use Rattle.aeth_tables.proofs.PortLaws.{all_sent}
-use Rattle.aeth_tables.proofs.SentLinks.{sent_along}
-use Rattle.aeth_tables.proofs.ShapeRanges.{shape_in_range}
+use Rattle.aeth_server.specs.{ChannelShape.IsShapeInRange, declared.shape.ChannelShape.ChannelShape}
+use Rattle.aeth_tables.specs.{Granted.grant_on, Routes.IsSent}
+use Rattle.aeth_tables.proofs.{PortLaws.all_sent, SentLinks.sent_along, ShapeRanges.shape_in_range}
 use Rattle.aeth_tables.proofs.rows.row_on.Goals as goal
 
 -- Routers send on all links of the path but the first.

@@ -1,5 +1,4 @@
-use Rattle.aeth_tables.proofs.ListLaws.{flat_map-next}
-use Rattle.aeth_tables.specs.Tables.{rows_on, shapes_on}
+use Rattle.aeth_tables.{proofs.ListLaws.flat_map-next, specs.Tables.rows_on, specs.Tables.shapes_on}
 use Rattle.aeth_tables.proofs.rows.tables_with.Goals as goal
 
 -- One more connection.

@@ -1,5 +1,4 @@
-use Rattle.std.proofs.Common.{◌≡◌, take}
-use Rattle.std.specs.Prelude.{flat_map}
+use Rattle.std.proofs.Common.{◌≡◌, take, flat_map}
 use Rattle.aeth_tables.specs.Tables.{rows_on, shapes_on}
 use Rattle.aeth_tables.proofs.rows.tables_with.Given as goal
 

@@ -1,6 +1,5 @@
 use Rattle.std.proofs.Common.{◌∙◌, ◌++◌, sym, ap}
-use Rattle.aeth_tables.specs.Changes.{spans_in}
-use Rattle.aeth_tables.proofs.TextLaws.{flat_map-more}
+use Rattle.aeth_tables.{specs.Changes.spans_in, proofs.TextLaws.flat_map-more}
 use Rattle.aeth_tables.proofs.switching.all_spans.Goals as goal
 
 -- One more use case.

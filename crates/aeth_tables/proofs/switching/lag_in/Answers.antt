@@ -1,8 +1,8 @@
 use Rattle.std.proofs.Common.{◌∙◌, sym}
 use Rattle.aeth_base.proofs.ExtremeLemmas.{ord_max-nat}
 use Rattle.aeth_tables.proofs.SpanLaws.{lag-kept, lag-made}
-use Rattle.aeth_tables.specs.Changes.{lag_in, made}
 use Rattle.aeth_tables.proofs.switching.lag_in.Goals.{else-not-kept, then-not-kept}
+use Rattle.aeth_tables.specs.Changes.{lag_in, made}
 use Rattle.aeth_tables.proofs.switching.lag_in.Goals as goal
 
 -- One more change.

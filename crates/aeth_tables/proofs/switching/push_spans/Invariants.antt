@@ -1,5 +1,4 @@
-use Rattle.std.proofs.Common.{◌≡◌, ◌++◌, map}
-use Rattle.std.specs.List.{range_with_len}
+use Rattle.std.{proofs.Common.◌≡◌, proofs.Common.◌++◌, proofs.Common.map, specs.List.range_with_len}
 use Rattle.aeth_tables.specs.Changes.{changes_at, span_in}
 use Rattle.aeth_tables.proofs.switching.push_spans.Given as goal
 

@@ -1,5 +1,4 @@
-use Rattle.std.proofs.Common.{◌≡◌, ◌∙◌, ◌≢◌, ◌==◌, ℕ, false, refl, sym, arith}
-use Rattle.std.proofs.lemmas.Bool.{ne_eqb}
+use Rattle.std.proofs.Common.{◌≡◌, ◌∙◌, ◌≢◌, ◌==◌, ℕ, false, refl, sym, arith, ne_eqb}
 use Rattle.aeth_group.specs.Members.{group_at}
 use Rattle.aeth_tables.proofs.ChangeLaws.{few_writes, made-apart}
 use Rattle.aeth_tables.proofs.switching.span_in.Goals as goal

@@ -1,12 +1,9 @@
-use Rattle.std.proofs.Common.{◌∙◌, ◌*◌, ℕ, length, map, refl, ap, sym}
-use Rattle.std.specs.Prelude.{flat_map}
-use Rattle.std.specs.List.{range_with_len}
+use Rattle.std.proofs.Common.{◌∙◌, ◌*◌, ℕ, length, map, refl, ap, sym, flat_map}
 use Rattle.std.proofs.lemmas.List.FromFn.{length-map-range_with_len}
-use Rattle.aeth_tables.specs.Changes.{changes_at, change_of, span_in, spans_in}
-use Rattle.aeth_tables.specs.Granted.{granted_in}
-use Rattle.aeth_tables.specs.Switching.{spans_of}
-use Rattle.aeth_tables.proofs.GridLaws.{grid_length}
-use Rattle.aeth_tables.proofs.SpanLaws.{spans_in-all}
+use Rattle.std.specs.List.{range_with_len}
+use Rattle.aeth_tables.specs.{Changes.changes_at, Changes.change_of, Changes.span_in}
+use Rattle.aeth_tables.specs.{Changes.spans_in, Granted.granted_in, Switching.spans_of}
+use Rattle.aeth_tables.proofs.{GridLaws.grid_length, SpanLaws.spans_in-all}
 use Rattle.aeth_tables.proofs.switching.spans.Goals as goal
 
 -- There are changes for each use case.

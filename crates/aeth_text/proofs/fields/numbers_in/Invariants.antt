@@ -1,8 +1,6 @@
 use Rattle.std.proofs.Common.{◌≡◌, length}
-use Rattle.aeth_text.specs.Grammar.{all_of, parts, words_left}
-use Rattle.aeth_text.specs.Fields.{number_in}
-use Rattle.aeth_text.specs.Limits.{comma}
-use Rattle.aeth_text.proofs.Fronts.{with_front}
+use Rattle.aeth_text.{specs.Grammar.all_of, specs.Grammar.parts, specs.Grammar.words_left}
+use Rattle.aeth_text.{specs.Fields.number_in, specs.Limits.comma, proofs.Fronts.with_front}
 use Rattle.aeth_text.proofs.fields.numbers_in.Given as goal
 
 -- The numbers so far, and those of the words that are left.

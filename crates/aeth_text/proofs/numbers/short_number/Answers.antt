@@ -1,8 +1,6 @@
-use Rattle.std.proofs.Common.{◌≡◌, Some, take, subst, sym, arith}
-use Rattle.std.proofs.lemmas.List.{take_all}
+use Rattle.std.proofs.Common.{◌≡◌, Some, take, subst, sym, arith, take_all}
 use Rattle.aeth_base.specs.Number.{IsLed}
-use Rattle.aeth_text.specs.Fields.{number_in}
-use Rattle.aeth_text.specs.Limits.{comma}
+use Rattle.aeth_text.specs.{Fields.number_in, Limits.comma}
 use Rattle.aeth_text.proofs.Cuts.{free_further, parts_at, parts_none}
 use Rattle.aeth_text.proofs.NumberWords.{number-front, read-more}
 use Rattle.aeth_text.proofs.numbers.short_number.Goals as goal

@@ -1,7 +1,6 @@
 use Rattle.std.proofs.Common.{◌≤◌}
 use Rattle.aeth_text.specs.Limits.{comma, max_number}
-use Rattle.aeth_text.proofs.Cuts.{IsFreeBefore}
-use Rattle.aeth_text.proofs.NumberWords.{IsReadTo}
+use Rattle.aeth_text.proofs.{Cuts.IsFreeBefore, NumberWords.IsReadTo}
 use Rattle.aeth_text.proofs.numbers.short_number.Given as goal
 
 -- No byte so far is a comma, and the number is that of the digits so far.

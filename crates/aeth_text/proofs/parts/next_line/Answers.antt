@@ -1,9 +1,7 @@
-use Rattle.std.proofs.Common.{◌≡◌, [], ◌∷◌, ℕ, List, None, Some, length, take, drop, ◌-◌, ◌+◌, subst}
-use Rattle.std.proofs.Common.{arith}
-use Rattle.std.proofs.lemmas.Bool.{eqb-true}
+use Rattle.std.proofs.Common.{◌≡◌, [], ◌∷◌, ℕ, List, None, Some, length, take, drop, ◌-◌, ◌+◌}
+use Rattle.std.proofs.Common.{subst, arith, eqb-true}
 use Rattle.memchr.specs.Find.{IsFirstByte, is_byte}
-use Rattle.aeth_text.specs.Grammar.{parts}
-use Rattle.aeth_text.specs.Limits.{line_feed}
+use Rattle.aeth_text.specs.{Grammar.parts, Limits.line_feed}
 use Rattle.aeth_text.proofs.Cuts.{free_before, parts_at, parts_none}
 use Rattle.aeth_text.proofs.LineLaws.{lines_cut, lines_none}
 use Rattle.aeth_text.proofs.parts.next_line.Goals as goal

@@ -1,5 +1,4 @@
-use Rattle.std.proofs.Common.{◌-◌, arith, length-set}
-use Rattle.std.proofs.lemmas.Fmt.{length-decimal-le}
+use Rattle.std.proofs.{Common.◌-◌, Common.arith, Common.length-set, lemmas.Fmt.length-decimal-le}
 use Rattle.aeth_text.specs.Limits.{field_room}
 use Rattle.aeth_text.proofs.writing.write_field.Goals as goal
 

@@ -1,8 +1,6 @@
 use Rattle.aeth_records.specs.Records.{records_of}
-use Rattle.aeth_trace.specs.declared.receivers.PullRow.{PullRow}
-use Rattle.aeth_trace.proofs.FileLemmas.{are_receivers}
-use Rattle.aeth_trace.proofs.KnownLemmas.{are_known-All}
-use Rattle.aeth_trace.proofs.OrderLemmas.{in_order-rises}
+use Rattle.aeth_trace.{specs.declared.receivers.PullRow.PullRow, proofs.FileLemmas.are_receivers}
+use Rattle.aeth_trace.{proofs.KnownLemmas.are_known-All, proofs.OrderLemmas.in_order-rises}
 use Rattle.aeth_trace.proofs.receivers.read_receivers.Goals as goal
 
 -- The connections that rows name are known.

@@ -1,9 +1,7 @@
 use Rattle.std.proofs.lemmas.Result.{err_from_is_err_and}
 use Rattle.aeth_records.specs.Records.{records_of}
-use Rattle.aeth_trace.proofs.FileLemmas.{are_switches}
-use Rattle.aeth_trace.proofs.KnownLemmas.{are_known-All}
-use Rattle.aeth_trace.specs.declared.switches.SwitchRow.{SwitchRow}
-use Rattle.aeth_trace.specs.SwitchFaults.{switches_told}
+use Rattle.aeth_trace.proofs.{FileLemmas.are_switches, KnownLemmas.are_known-All}
+use Rattle.aeth_trace.specs.{declared.switches.SwitchRow.SwitchRow, SwitchFaults.switches_told}
 use Rattle.aeth_trace.proofs.switches.read_switches.Goals as goal
 
 -- The use cases that rows name are known.

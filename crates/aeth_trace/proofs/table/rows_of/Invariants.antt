@@ -1,8 +1,6 @@
 use Rattle.std.proofs.Common.{◌≡◌}
-use Rattle.aeth_trace.specs.Found.{AreFound}
+use Rattle.aeth_trace.specs.{Found.AreFound, Rules.rows_from, Words.connection_names}
 use Rattle.aeth_records.specs.Left.{IsReading, left}
-use Rattle.aeth_trace.specs.Rules.{rows_from}
-use Rattle.aeth_trace.specs.Words.{connection_names}
 use Rattle.aeth_document.proofs.Fronts.{with_front}
 use Rattle.aeth_trace.proofs.table.rows_of.Given as goal
 

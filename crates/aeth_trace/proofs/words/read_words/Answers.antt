@@ -1,10 +1,8 @@
 use Rattle.std.proofs.Common.{length}
-use Rattle.aeth_trace.specs.Limits.{max_rows}
+use Rattle.aeth_trace.specs.{Limits.max_rows, declared.words.WordRow.WordRow}
+use Rattle.aeth_trace.proofs.{FileLemmas.are_words, FileLemmas.few, KnownLemmas.are_known-All}
+use Rattle.aeth_trace.proofs.{OrderLemmas.in_order-rises}
 use Rattle.aeth_records.specs.Records.{records_of}
-use Rattle.aeth_trace.specs.declared.words.WordRow.{WordRow}
-use Rattle.aeth_trace.proofs.FileLemmas.{are_words, few}
-use Rattle.aeth_trace.proofs.KnownLemmas.{are_known-All}
-use Rattle.aeth_trace.proofs.OrderLemmas.{in_order-rises}
 use Rattle.aeth_trace.proofs.words.read_words.Goals as goal
 
 -- The connections that rows name are known.

@@ -1,15 +1,13 @@
-use Rattle.std.proofs.Common.{◌≡◌, ◌∙◌, Some, length, ap, refl, subst, sym}
-use Rattle.std.specs.Prelude.{option_map}
+use Rattle.std.proofs.Common.{◌≡◌, ◌∙◌, Some, length, ap, refl, subst, sym, option_map}
 use Rattle.aeth_base.specs.declared.ids.Side.TheVariants.{Back, Fwd}
 use Rattle.aeth_seats.specs.Seats.{IsSeats}
 use Rattle.aeth_alloc.specs.Channels.{Design, Reserved, grant_of, request_of, tried, with_found}
 use Rattle.aeth_alloc.specs.Trials.{trial_for}
 use Rattle.aeth_alloc.specs.Tries.{TryData, trial_over}
-use Rattle.aeth_alloc.proofs.StepLemmas.{tried-of}
-use Rattle.aeth_alloc.proofs.TryLemmas.{back-try-is, back_try}
+use Rattle.aeth_alloc.proofs.{StepLemmas.tried-of, TryLemmas.back-try-is, TryLemmas.back_try}
+use Rattle.aeth_alloc.proofs.{channels.Reserved.back_try.Goals.In_ok-found}
 use Rattle.aeth_alloc.proofs.channels.Reserved.back_try.Given as given
 use Rattle.aeth_alloc.proofs.channels.Reserved.back_try.Goals as goal
-use Rattle.aeth_alloc.proofs.channels.Reserved.back_try.Goals.{In_ok-found}
 
 -- What the try of the `fwd` channel comes to, by what was found.
 comes : (g : given.Over) (c : goal.In_ok-found g)

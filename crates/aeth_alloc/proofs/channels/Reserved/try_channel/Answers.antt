@@ -1,13 +1,12 @@
-use Rattle.std.proofs.Common.{◌≡◌, ◌∙◌, Some, length, ap, subst, sym}
-use Rattle.std.specs.Prelude.{option_map}
+use Rattle.std.proofs.Common.{◌≡◌, ◌∙◌, Some, length, ap, subst, sym, option_map}
 use Rattle.aeth_app.specs.App.{IsConnection}
 use Rattle.aeth_alloc.specs.Channels.{Design, Reserved, tried, with_found}
 use Rattle.aeth_alloc.specs.Holds.{IsCandidateFor, IsReservedOf}
 use Rattle.aeth_alloc.proofs.GrantLemmas.{candidate-free, candidate-links, candidate-size}
 use Rattle.aeth_alloc.proofs.StepLemmas.{MaySit, found-candidate, granted-steps, may-sit, tried-of}
+use Rattle.aeth_alloc.proofs.channels.Reserved.try_channel.Goals.{In-Some, In_ok-found}
 use Rattle.aeth_alloc.proofs.channels.Reserved.try_channel.Given as given
 use Rattle.aeth_alloc.proofs.channels.Reserved.try_channel.Goals as goal
-use Rattle.aeth_alloc.proofs.channels.Reserved.try_channel.Goals.{In-Some, In_ok-found}
 
 -- What was found is a candidate.
 candidate : (g : given.Over) (c : goal.In-Some g) → IsCandidateFor c.args.design.now

@@ -1,8 +1,6 @@
-use Rattle.std.proofs.Common.{◌≡◌, ◌∙◌, ◌+◌, List, ℕ, ap, arith, rules, subst}
-use Rattle.std.specs.Prelude.{IfOk}
+use Rattle.std.proofs.Common.{◌≡◌, ◌∙◌, ◌+◌, List, ℕ, ap, arith, rules, subst, IfOk}
 use Rattle.aeth_app.specs.declared.connection.Price.TheVariants.{Hops, Pressure}
-use Rattle.aeth_alloc.specs.Prices.{prices_of}
-use Rattle.aeth_alloc.specs.Trials.{trials_of}
+use Rattle.aeth_alloc.specs.{Prices.prices_of, Trials.trials_of}
 use Rattle.aeth_alloc.proofs.PriceLemmas.{price-table}
 use Rattle.aeth_alloc.proofs.tries.Tries.of.Goals as goal
 

@@ -1,17 +1,14 @@
-use Rattle.std.proofs.Common.{◌≡◌, ◌∙◌, ◌<◌, length, ap, arith, subst, sym}
-use Rattle.std.specs.Prelude.{IfOk, option_and_then, option_map, slice_get}
+use Rattle.std.proofs.Common.{◌≡◌, ◌∙◌, ◌<◌, length, ap, arith, subst, sym, IfOk, option_and_then}
+use Rattle.std.proofs.Common.{option_map, slice_get}
 use Rattle.aeth_base.specs.declared.ids.Unit.{Unit as GroupUnit}
-use Rattle.aeth_alloc.specs.Channels.{Design}
-use Rattle.aeth_alloc.specs.Holds.{IsReservedOf}
-use Rattle.aeth_alloc.specs.Trials.{refusal_in, trial_of}
-use Rattle.aeth_alloc.specs.Tries.{trial_over}
-use Rattle.aeth_alloc.specs.Turns.{State, after_turn}
+use Rattle.aeth_alloc.specs.{Channels.Design, Holds.IsReservedOf, Trials.refusal_in}
+use Rattle.aeth_alloc.specs.{Trials.trial_of, Tries.trial_over, Turns.State, Turns.after_turn}
 use Rattle.aeth_alloc.proofs.NextUnitLemmas.{next-waits}
 use Rattle.aeth_alloc.proofs.TryLemmas.{noted-some, refusal-is, refusal-listed}
 use Rattle.aeth_alloc.proofs.TurnLemmas.{state-after}
+use Rattle.aeth_alloc.proofs.turns.State.noted_turn.Goals.{After-refusal, in-None, in-Some}
 use Rattle.aeth_alloc.proofs.turns.State.noted_turn.Given as given
 use Rattle.aeth_alloc.proofs.turns.State.noted_turn.Goals as goal
-use Rattle.aeth_alloc.proofs.turns.State.noted_turn.Goals.{After-refusal, in-None, in-Some}
 
 -- What stands at the place that was past the last refusal is the refusal of the turn.
 told : (g : given.Over) (c : After-refusal g)

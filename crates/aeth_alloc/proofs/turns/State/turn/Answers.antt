@@ -1,16 +1,15 @@
 use Rattle.std.proofs.Common.{◌≡◌, ◌∙◌, ◌<◌, ◌++◌, Option, Some, ap, length, refl, subst, sym}
-use Rattle.std.proofs.lemmas.List.{append-nil}
-use Rattle.aeth_base.specs.declared.ids.Side.{Side}
-use Rattle.aeth_base.specs.declared.ids.Unit.{Unit as GroupUnit}
+use Rattle.std.proofs.Common.{append-nil}
+use Rattle.aeth_base.specs.declared.ids.{Side.Side, Unit.Unit as GroupUnit}
 use Rattle.aeth_order.specs.Units.{next_unit, without_unit}
 use Rattle.aeth_alloc.specs.Turns.{State, after_turn, refusals_of}
 use Rattle.aeth_alloc.specs.declared.turns.State.TheInside.{Inside}
 use Rattle.aeth_alloc.proofs.NextUnitLemmas.{next-waits}
 use Rattle.aeth_alloc.proofs.TurnLemmas.{turn-none, turn-steps}
+use Rattle.aeth_alloc.proofs.turns.State.turn.Goals.{After-done, After-next, in-Some-2+in_ok-push}
+use Rattle.aeth_alloc.proofs.turns.State.turn.Goals.{in_default-2}
 use Rattle.aeth_alloc.proofs.turns.State.turn.Given as given
 use Rattle.aeth_alloc.proofs.turns.State.turn.Goals as goal
-use Rattle.aeth_alloc.proofs.turns.State.turn.Goals.{After-done, After-next}
-use Rattle.aeth_alloc.proofs.turns.State.turn.Goals.{in-Some-2+in_ok-push, in_default-2}
 
 -- The unit whose turn is next.
 next-is : (g : given.Over) (c : goal.After-next g)

@@ -1,8 +1,6 @@
-use Rattle.std.proofs.Common.{◌∙◌, ℕ, ◌++◌, List, ap}
-use Rattle.std.specs.Prelude.{codes}
-use Rattle.aeth_answers.specs.Job.{Job}
-use Rattle.aeth_answers.specs.Refusal.{refused_file, value_text}
-use Rattle.aeth_answers.specs.Status.{refused_status}
+use Rattle.std.proofs.Common.{◌∙◌, ℕ, ◌++◌, List, ap, codes}
+use Rattle.aeth_answers.specs.{Job.Job, Refusal.refused_file, Refusal.value_text}
+use Rattle.aeth_answers.specs.{Status.refused_status}
 use Rattle.aeth_answers.proofs.answer.Answer.refused_file.Goals as goal
 
 -- The line, its value and its end.

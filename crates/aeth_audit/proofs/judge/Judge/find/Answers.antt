@@ -1,9 +1,7 @@
-use Rattle.std.proofs.Common.{◌≡◌, ◌∙◌, get_or, slice_get, ap, sym, subst, inl, inr}
-use Rattle.std.proofs.Common.{arith}
+use Rattle.std.proofs.Common.{◌≡◌, ◌∙◌, get_or, slice_get, ap, sym, subst, inl, inr, arith}
 use Rattle.std.proofs.lemmas.Bool.{cases_lt, false≢true}
 use Rattle.std.proofs.lemmas.Option.{same_Some, slice_get-get_or, slice_get_within}
-use Rattle.aeth_audit.specs.Judging.{IsOpenAt}
-use Rattle.aeth_audit.specs.declared.places.Place.{Place}
+use Rattle.aeth_audit.specs.{Judging.IsOpenAt, declared.places.Place.Place}
 use Rattle.aeth_audit.proofs.FoundLemmas.{found-at, never-found, of-grants}
 use Rattle.aeth_audit.proofs.judge.Judge.find.Goals as goal
 

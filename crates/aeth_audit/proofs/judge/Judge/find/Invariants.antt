@@ -1,7 +1,6 @@
 use Rattle.std.proofs.Common.{◌≡◌, ◌<◌, ℕ, Some, slice_get}
 use Rattle.aeth_group.specs.declared.grant.Grant.{Grant}
-use Rattle.aeth_audit.specs.Judging.{IsOpenAt}
-use Rattle.aeth_audit.specs.declared.places.Place.{Place}
+use Rattle.aeth_audit.specs.{Judging.IsOpenAt, declared.places.Place.Place}
 use Rattle.aeth_audit.proofs.judge.Judge.find.Given as goal
 
 -- None of the places so far is open.

@@ -1,6 +1,5 @@
 use Rattle.std.proofs.Common.{◌∙◌, sym, arith}
-use Rattle.aeth_audit.specs.Judged.{design_for}
-use Rattle.aeth_audit.specs.declared.row.LinkRow.{LinkRow}
+use Rattle.aeth_audit.specs.{Judged.design_for, declared.row.LinkRow.LinkRow}
 use Rattle.aeth_audit.proofs.RowLemmas.{first-here, first-later, first-none}
 use Rattle.aeth_audit.proofs.judge.Judge.first_fault.Goals as goal
 

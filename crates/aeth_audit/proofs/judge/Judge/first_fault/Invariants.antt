@@ -1,8 +1,7 @@
 use Rattle.std.proofs.Common.{◌≡◌, ◌+◌, List, drop}
 use Rattle.aeth_app.specs.App.{AppData}
 use Rattle.aeth_trace.specs.declared.switches.SwitchRow.{SwitchRow}
-use Rattle.aeth_audit.specs.Audit.{first_fault}
-use Rattle.aeth_audit.specs.Judged.{IsJudgeOf, design_for}
+use Rattle.aeth_audit.specs.{Audit.first_fault, Judged.IsJudgeOf, Judged.design_for}
 use Rattle.aeth_audit.proofs.judge.Judge.first_fault.Given as goal
 
 -- The rows that are left have the same first fault as all rows.

@@ -1,7 +1,6 @@
 use Rattle.std.proofs.Common.{◌∙◌, List, ◌&&◌, ap, sym}
 use Rattle.aeth_base.specs.declared.ids.LinkId.{LinkId}
-use Rattle.aeth_audit.specs.Audit.{has_after, has_before}
-use Rattle.aeth_audit.proofs.JudgeLemmas.{own-path}
+use Rattle.aeth_audit.{specs.Audit.has_after, specs.Audit.has_before, proofs.JudgeLemmas.own-path}
 use Rattle.aeth_audit.proofs.judge.Judge.is_joined.Goals as goal
 
 -- The path is that of the reservation.

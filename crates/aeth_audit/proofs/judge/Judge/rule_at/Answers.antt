@@ -1,9 +1,8 @@
 use Rattle.std.proofs.Common.{◌≡◌, ◌∙◌, Bool, Option, ℕ, Some, None, cond, not, ap, sym}
 use Rattle.std.proofs.lemmas.Option.{same_Some}
 use Rattle.aeth_group.specs.declared.grant.Grant.{Grant}
-use Rattle.aeth_audit.specs.Audit.{is_of_channel, rule_at}
-use Rattle.aeth_audit.specs.Judged.{design_for, reservation_of}
-use Rattle.aeth_audit.specs.Limits.{broken_off, foreign}
+use Rattle.aeth_audit.specs.{Audit.is_of_channel, Audit.rule_at, Judged.design_for}
+use Rattle.aeth_audit.specs.{Judged.reservation_of, Limits.broken_off, Limits.foreign}
 use Rattle.aeth_audit.proofs.judge.Judge.rule_at.Goals as goal
 
 -- The two tests decide.

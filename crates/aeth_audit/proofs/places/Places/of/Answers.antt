@@ -1,9 +1,7 @@
 use Rattle.std.proofs.Common.{◌≡◌, ◌∙◌, ℕ, ◌++◌, List, drop, length, take, ap, subst, sym, arith}
 use Rattle.std.proofs.Math.Seq.{take-append_seam}
-use Rattle.std.specs.declared.alloc.Global.{Global}
-use Rattle.std.specs.declared.vec.Vec.{Vec}
-use Rattle.aeth_audit.specs.Places.{ArePlaces}
-use Rattle.aeth_audit.specs.declared.places.Place.{Place}
+use Rattle.std.specs.declared.{alloc.Global.Global, vec.Vec.Vec}
+use Rattle.aeth_audit.specs.{Places.ArePlaces, declared.places.Place.Place}
 use Rattle.aeth_audit.proofs.places.Places.of.Goals as goal
 
 -- The places were put into all cells.

@@ -1,7 +1,5 @@
-use Rattle.std.proofs.Common.{sym, subst}
-use Rattle.std.specs.Prelude.{All}
-use Rattle.aeth_audit.specs.Tables.{IsAddressable}
-use Rattle.aeth_audit.proofs.TableLemmas.{addressable}
+use Rattle.std.proofs.Common.{sym, subst, All}
+use Rattle.aeth_audit.{specs.Tables.IsAddressable, proofs.TableLemmas.addressable}
 use Rattle.aeth_audit.proofs.table.Table.of.Goals as goal
 
 -- The grants can be addressed.

@@ -1,7 +1,7 @@
 use Rattle.std.proofs.Common.{◌<◌, ◌*◌, ◌∙◌, ap, arith, inl, inr, length, set, sym}
-use Rattle.std.specs.Int.{trailing_zeros, w64}
 use Rattle.std.proofs.lemmas.Bool.{cases_lt}
 use Rattle.std.proofs.lemmas.Nat.Bits.{bit_at-trailing_zeros, bit_at_clear_other, bit_at_clear_same}
+use Rattle.std.specs.Int.{trailing_zeros, w64}
 use Rattle.aeth_base.specs.Marks.{marked_from}
 use Rattle.aeth_base.proofs.MarkedMasks.{marked_from-first, marked_from-last, marked_from-next}
 use Rattle.aeth_base.proofs.marked.Marked.take_first.Goals as goal

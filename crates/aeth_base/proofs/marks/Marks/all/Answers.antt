@@ -1,9 +1,8 @@
 use Rattle.std.proofs.Common.{◌∙◌, ◌/◌, ◌%◌, ◌+◌, ℕ, List, ap, arith}
+use Rattle.std.proofs.lemmas.{Nat.Bits.bit_at_ones, List.get_or-replicate}
 use Rattle.std.specs.Int.{bit_at}
-use Rattle.std.proofs.lemmas.Nat.Bits.{bit_at_ones}
-use Rattle.std.proofs.lemmas.List.{get_or-replicate}
-use Rattle.aeth_base.proofs.marks.Marks.all.Goals as goal
 use Rattle.aeth_base.specs.Marks.{bit_of}
+use Rattle.aeth_base.proofs.marks.Marks.all.Goals as goal
 
 -- Each mask has all bits.
 pub returns-clause-marked : goal.returns-clause-marked

@@ -1,7 +1,6 @@
 use Rattle.std.proofs.Common.{◌∙◌, ◌/◌, ◌+◌, ℕ, List, ap}
-use Rattle.aeth_base.proofs.MarkLemmas.{bit_of-zeros}
+use Rattle.aeth_base.{proofs.MarkLemmas.bit_of-zeros, specs.Marks.bit_of}
 use Rattle.aeth_base.proofs.marks.Marks.none.Goals as goal
-use Rattle.aeth_base.specs.Marks.{bit_of}
 
 -- No mask has a bit.
 pub returns-clause-unmarked : goal.returns-clause-unmarked

@@ -1,6 +1,5 @@
 use Rattle.std.proofs.Common.{◌≡◌, ◌∙◌, refl, sym, true}
-use Rattle.aeth_base.specs.Name.{is_name}
-use Rattle.aeth_base.proofs.NameLemmas.{is_padded-written}
+use Rattle.aeth_base.{specs.Name.is_name, proofs.NameLemmas.is_padded-written}
 use Rattle.aeth_base.proofs.name.Name.new.Goals as goal
 
 -- The bytes are a name, with zeros behind it.

@@ -1,16 +1,13 @@
 use Rattle.std.proofs.Common.{◌≡◌, ◌<◌, ◌≤◌, ◌+◌, List, sym, ap, ◌∙◌, length, take, refl, arith}
-use Rattle.aeth_base.specs.declared.ids.LinkId.{LinkId}
-use Rattle.aeth_chip.specs.declared.node.Link.{Link}
-use Rattle.aeth_chip.specs.Paths.{delay_of, offset}
-use Rattle.aeth_chip.proofs.OffsetLemmas.{offset-more}
+use Rattle.std.proofs.Common.{take_all}
 use Rattle.std.specs.List.{range_with_len}
-use Rattle.std.proofs.lemmas.List.{take_all}
+use Rattle.aeth_base.specs.declared.ids.LinkId.{LinkId}
+use Rattle.aeth_chip.specs.{declared.node.Link.Link, Paths.delay_of, Paths.offset}
+use Rattle.aeth_chip.proofs.OffsetLemmas.{offset-more}
 use Rattle.aeth_slots.specs.SlotSet.{all_slots}
-use Rattle.aeth_book.specs.Book.{BookData}
-use Rattle.aeth_book.specs.Free.{free_starts, narrowed}
-use Rattle.aeth_book.proofs.FreeLemmas.{free-push}
-use Rattle.aeth_book.proofs.FilterLemmas.{filter_none}
-use Rattle.aeth_book.proofs.StartLemmas.{free_starts-each}
+use Rattle.aeth_book.specs.{Book.BookData, Free.free_starts, Free.narrowed}
+use Rattle.aeth_book.proofs.{FreeLemmas.free-push, FilterLemmas.filter_none}
+use Rattle.aeth_book.proofs.{StartLemmas.free_starts-each}
 use Rattle.aeth_group.proofs.ListLemmas.{all_at, take-at}
 use Rattle.aeth_book.proofs.book.Book.free.Goals as goal
 

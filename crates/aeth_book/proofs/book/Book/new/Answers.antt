@@ -1,8 +1,7 @@
 use Rattle.std.proofs.Common.{◌≡◌, List, length, refl, sym, ap, ◌∙◌, subst, arith}
 use Rattle.aeth_chip.specs.declared.node.Link.{Link}
 use Rattle.aeth_group.specs.Members.{GroupsData}
-use Rattle.aeth_book.specs.Book.{AreShort}
-use Rattle.aeth_book.proofs.BookLemmas.{kept-none}
+use Rattle.aeth_book.{specs.Book.AreShort, proofs.BookLemmas.kept-none}
 use Rattle.aeth_book.proofs.book.Book.new.Goals as goal
 
 -- The book is kept.

@@ -1,14 +1,12 @@
 use Rattle.std.proofs.Common.{◌∙◌, ◌≤◌, List, get_or, [], length, sym, ap, arith, subst, ◌<◌}
-use Rattle.std.proofs.lemmas.List.{take_all}
-use Rattle.aeth_group.specs.Members.{has_unit}
-use Rattle.aeth_group.specs.Rows.{uses_of}
-use Rattle.aeth_group.proofs.RowLemmas.{uses_of-below}
+use Rattle.std.proofs.Common.{take_all}
+use Rattle.aeth_group.{specs.Members.has_unit, specs.Rows.uses_of, proofs.RowLemmas.uses_of-below}
 use Rattle.aeth_slots.specs.SlotSet.{joined}
 use Rattle.aeth_book.specs.Book.{BookData}
 use Rattle.aeth_book.proofs.UseLemmas.{joined_by, joined_by-all, joined_by-more, joined_by-none}
 use Rattle.aeth_book.proofs.UseLemmas.{joined_by-same}
-use Rattle.aeth_book.proofs.book.Book.taken.Goals as goal
 use Rattle.aeth_book.proofs.book.Book.taken.Goals.{then-has, else-has}
+use Rattle.aeth_book.proofs.book.Book.taken.Goals as goal
 
 -- No use case occupies nothing.
 pub loop-u-init : goal.loop-u-init

@@ -1,15 +1,13 @@
 use Rattle.std.proofs.Common.{◌∙◌, ◌≤◌, ◌<◌, List, get_or, length, max, sym, ap, arith, subst}
-use Rattle.std.proofs.lemmas.List.{take_all}
-use Rattle.aeth_group.specs.Members.{has_unit}
-use Rattle.aeth_group.specs.Rows.{uses_of}
-use Rattle.aeth_group.proofs.RowLemmas.{uses_of-below}
+use Rattle.std.proofs.Common.{take_all}
+use Rattle.aeth_group.{specs.Members.has_unit, specs.Rows.uses_of, proofs.RowLemmas.uses_of-below}
 use Rattle.aeth_slots.specs.SlotSet.{Slots}
 use Rattle.aeth_book.specs.Book.{BookData}
-use Rattle.aeth_base.proofs.ExtremeLemmas.{ord_max-nat}
 use Rattle.aeth_book.proofs.UseLemmas.{used_slots-within, used_by, used_by-all, used_by-more}
 use Rattle.aeth_book.proofs.UseLemmas.{used_by-same}
-use Rattle.aeth_book.proofs.book.Book.used.Goals as goal
 use Rattle.aeth_book.proofs.book.Book.used.Goals.{then-has_unit, else-has_unit}
+use Rattle.aeth_base.proofs.ExtremeLemmas.{ord_max-nat}
+use Rattle.aeth_book.proofs.book.Book.used.Goals as goal
 
 -- The use case is there.
 pub mask-requires-clause-u : goal.mask-requires-clause-u

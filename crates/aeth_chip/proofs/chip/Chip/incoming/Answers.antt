@@ -1,5 +1,4 @@
-use Rattle.aeth_chip.specs.declared.node.End.TheVariants.{To}
-use Rattle.aeth_chip.proofs.IndexLemmas.{links_listed}
+use Rattle.aeth_chip.{specs.declared.node.End.TheVariants.To, proofs.IndexLemmas.links_listed}
 use Rattle.aeth_chip.proofs.chip.Chip.incoming.Goals as goal
 
 -- The index has the links of each router, and none past the last.

@@ -1,7 +1,6 @@
 use Rattle.std.proofs.Common.{◌≡◌, Some, slice_get}
-use Rattle.aeth_chip.proofs.ReadLemmas.{read_at}
+use Rattle.aeth_chip.proofs.{ReadLemmas.read_at, chip.Chip.link.Goals.After-index}
 use Rattle.aeth_chip.proofs.chip.Chip.link.Goals as goal
-use Rattle.aeth_chip.proofs.chip.Chip.link.Goals.{After-index}
 
 -- The link stands at its number.
 found : (c : goal.After-index)

@@ -1,9 +1,6 @@
-use Rattle.std.proofs.Common.{◌≡◌, ◌<◌, Some, slice_get, arith}
-use Rattle.std.specs.Prelude.{IfSome}
-use Rattle.aeth_chip.specs.declared.node.Node.TheVariants.{Router}
-use Rattle.aeth_chip.specs.Limits.{max_ports}
-use Rattle.aeth_chip.specs.Nodes.{sender_of, sends_on}
-use Rattle.aeth_chip.proofs.NodeLemmas.{port_at}
+use Rattle.std.proofs.Common.{◌≡◌, ◌<◌, Some, slice_get, arith, IfSome}
+use Rattle.aeth_chip.{specs.declared.node.Node.TheVariants.Router, specs.Limits.max_ports}
+use Rattle.aeth_chip.{specs.Nodes.sender_of, specs.Nodes.sends_on, proofs.NodeLemmas.port_at}
 use Rattle.aeth_chip.proofs.chip.Chip.port.Goals as goal
 
 -- The number of earlier links of the router is its port, one of few.

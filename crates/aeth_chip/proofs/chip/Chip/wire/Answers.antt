@@ -1,8 +1,8 @@
 use Rattle.std.proofs.Common.{◌<◌, ◌+◌, ◌-◌, arith}
 use Rattle.aeth_chip.specs.Wires.{wires_of}
 use Rattle.aeth_chip.proofs.WireLemmas.{have_delays, wire_at-behind, wire_in_chip, wires_of-few}
-use Rattle.aeth_chip.proofs.chip.Chip.wire.Goals as goal
 use Rattle.aeth_chip.proofs.chip.Chip.wire.Goals.{After-links}
+use Rattle.aeth_chip.proofs.chip.Chip.wire.Goals as goal
 
 -- A link is its own first wire.
 pub returns-then-place-eq0-clause-below : goal.returns-then-place-eq0-clause-below

@@ -1,12 +1,9 @@
-use Rattle.std.proofs.Common.{List, ℕ, subst}
+use Rattle.std.proofs.Common.{List, ℕ, subst, ◌+◌}
 use Rattle.std.proofs.lemmas.Option.{get_or_from_slice_get, slice_get_within}
-use Rattle.std.specs.Prelude.{◌+◌}
-use Rattle.aeth_chip.specs.Distances.{AreBelow, AreRows}
-use Rattle.aeth_chip.specs.Levels.{HasPlace, HasPlaces}
-use Rattle.aeth_chip.specs.Nodes.{IsBelow}
-use Rattle.aeth_chip.specs.declared.node.Link.{Link}
-use Rattle.aeth_chip.specs.declared.node.Node.{Node}
-use Rattle.aeth_chip.specs.declared.node.Node.TheVariants.{Router, Ni}
+use Rattle.aeth_chip.specs.{Distances.AreBelow, Distances.AreRows, Levels.HasPlace}
+use Rattle.aeth_chip.specs.{Levels.HasPlaces, Nodes.IsBelow, declared.node.Link.Link}
+use Rattle.aeth_chip.specs.{declared.node.Node.Node, declared.node.Node.TheVariants.Router}
+use Rattle.aeth_chip.specs.{declared.node.Node.TheVariants.Ni}
 use Rattle.aeth_chip.proofs.distances.Distances.over.Goals as goal
 
 -- A node with a place is a router of the chip, or an interface.

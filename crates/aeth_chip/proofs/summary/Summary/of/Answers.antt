@@ -1,10 +1,7 @@
 use Rattle.std.proofs.Common.{◌≡◌, ◌∙◌, ℕ, List, Option, Some, None, subst, arith}
-use Rattle.aeth_base.specs.declared.ids.NiId.{NiId}
-use Rattle.aeth_base.proofs.ExtremeLemmas.{ord_max-nat}
-use Rattle.aeth_chip.specs.declared.node.Link.{Link}
-use Rattle.aeth_chip.specs.Chip.{ChipData, IsChip}
-use Rattle.aeth_chip.specs.LeastDistance.{least_distance}
-use Rattle.aeth_chip.specs.Paths.{IsDistance}
+use Rattle.aeth_base.{specs.declared.ids.NiId.NiId, proofs.ExtremeLemmas.ord_max-nat}
+use Rattle.aeth_chip.specs.{declared.node.Link.Link, Chip.ChipData, Chip.IsChip}
+use Rattle.aeth_chip.specs.{LeastDistance.least_distance, Paths.IsDistance}
 use Rattle.aeth_chip.proofs.LeastDistanceLemmas.{distance_is_least_distance}
 use Rattle.aeth_chip.proofs.SummaryLemmas.{summary-few, summary-row, summary-some, summary-none}
 use Rattle.aeth_chip.proofs.SummaryLemmas.{summary-end}

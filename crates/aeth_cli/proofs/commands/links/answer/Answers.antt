@@ -1,8 +1,6 @@
-use Rattle.std.proofs.Common.{arith}
-use Rattle.std.proofs.lemmas.Result.{err_from_is_err_and}
+use Rattle.std.proofs.{Common.arith, lemmas.Result.err_from_is_err_and}
 use Rattle.aeth_accepted.specs.Inputs.{run_of}
-use Rattle.aeth_answers.specs.Places.{files_of}
-use Rattle.aeth_answers.specs.Task.{ends}
+use Rattle.aeth_answers.specs.{Places.files_of, Task.ends}
 use Rattle.aeth_answers.proofs.FileLemmas.{Answers-done, Answers-stopped, Answers-then}
 use Rattle.aeth_links.specs.Carried.{carried_rows, log_text}
 use Rattle.aeth_run_commands.specs.TracedDesigns.{seen_traced, traced_design, traced_inputs}

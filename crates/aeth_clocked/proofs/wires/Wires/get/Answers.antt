@@ -1,5 +1,4 @@
-use Rattle.std.proofs.Common.{◌<◌, arith, length}
-use Rattle.std.proofs.lemmas.Option.{slice_get-get_or}
+use Rattle.std.proofs.{Common.◌<◌, Common.arith, Common.length, lemmas.Option.slice_get-get_or}
 use Rattle.aeth_clocked.proofs.MarkedWiresLemmas.{as_many_kept, marked_flit-none, marked_flit-some}
 use Rattle.aeth_clocked.proofs.MarkedWiresLemmas.{slice_get-marked_wires}
 use Rattle.aeth_clocked.proofs.wires.Wires.get.Goals as goal

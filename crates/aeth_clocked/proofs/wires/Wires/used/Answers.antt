@@ -1,6 +1,5 @@
 use Rattle.std.proofs.Common.{◌∙◌, List, Option, ap}
-use Rattle.aeth_clocked.specs.Wires.{used_from}
-use Rattle.aeth_clocked.specs.declared.flit.Flit.{Flit}
+use Rattle.aeth_clocked.specs.{Wires.used_from, declared.flit.Flit.Flit}
 use Rattle.aeth_clocked.proofs.MarkedWiresLemmas.{marked_from-marked_wires}
 use Rattle.aeth_clocked.proofs.wires.Wires.used.Goals as goal
 

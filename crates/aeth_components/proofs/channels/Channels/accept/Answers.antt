@@ -1,12 +1,10 @@
-use Rattle.std.proofs.Common.{◌∙◌, ◌<◌, List, ap, arith, length, refl, set}
-use Rattle.std.proofs.lemmas.List.{get_or-set_same}
+use Rattle.std.proofs.Common.{◌∙◌, ◌<◌, List, ap, arith, length, refl, set, get_or-set_same}
 use Rattle.std.proofs.lemmas.Option.{slice_get_read}
-use Rattle.aeth_components.specs.Channels.{ChannelsState}
-use Rattle.aeth_components.specs.declared.lane.Lane.{Lane}
-use Rattle.aeth_components.proofs.channels.Channels.accept.Goals as goal
+use Rattle.aeth_components.specs.{Channels.ChannelsState, declared.lane.Lane.Lane}
 use Rattle.aeth_components.proofs.channels.Channels.accept.Goals.{After-note}
 use Rattle.aeth_components.proofs.LaneLemmas.{set-with_lane}
 use Rattle.aeth_components.proofs.MarkLemmas.{AreMarked-marked, AreMarked-set}
+use Rattle.aeth_components.proofs.channels.Channels.accept.Goals as goal
 
 -- There is such a channel.
 within : (c : goal.After-note) → c.args.number < length c.self.inside.lanes.items

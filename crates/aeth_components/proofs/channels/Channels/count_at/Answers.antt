@@ -1,11 +1,10 @@
 use Rattle.std.proofs.Common.{◌==◌, ◌∙◌, ap, length, map, sym, subst}
 use Rattle.aeth_base.proofs.Lists.{written_back}
-use Rattle.aeth_components.proofs.channels.Channels.count_at.Goals as goal
 use Rattle.aeth_components.proofs.AmongLemmas.{StaysAtHome-among, stays}
 use Rattle.aeth_components.proofs.CountingLemmas.{brings-none}
 use Rattle.aeth_components.proofs.HomeLemmas.{AreHomes-map, AreMarked-map}
-use Rattle.aeth_components.specs.Busy.{IsIdle}
-use Rattle.aeth_components.specs.Counting.{counted_among}
+use Rattle.aeth_components.specs.{Busy.IsIdle, Counting.counted_among}
+use Rattle.aeth_components.proofs.channels.Channels.count_at.Goals as goal
 
 -- What is noted of the channels stays so.
 pub invariant_of-self : goal.invariant_of-self

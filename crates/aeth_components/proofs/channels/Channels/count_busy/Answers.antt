@@ -1,15 +1,14 @@
 use Rattle.std.proofs.Common.{◌≡◌, ◌<◌, ◌+◌, ◌==◌, ◌∙◌, ap, arith, get_or, length, refl, slice_get}
-use Rattle.std.proofs.Common.{Some, sym}
-use Rattle.std.proofs.lemmas.Bool.{eq-eqb, eqb-true, false_from_ne_true}
-use Rattle.std.proofs.lemmas.Option.{get_or_from_slice_get}
-use Rattle.aeth_components.proofs.channels.Channels.count_busy.Goals as goal
+use Rattle.std.proofs.Common.{Some, sym, eq-eqb, eqb-true}
+use Rattle.std.proofs.lemmas.{Bool.false_from_ne_true, Option.get_or_from_slice_get}
 use Rattle.aeth_components.proofs.channels.Channels.count_busy.Goals.{Joined-index-number}
-use Rattle.aeth_components.proofs.channels.Channels.count_busy.Goals.{else-index-number, then-index-number}
+use Rattle.aeth_components.proofs.channels.Channels.count_busy.Goals.{else-index-number}
+use Rattle.aeth_components.proofs.channels.Channels.count_busy.Goals.{then-index-number}
 use Rattle.aeth_components.proofs.CountedLemmas.{AreCounted, AreCounted-away, AreCounted-first}
-use Rattle.aeth_components.proofs.CountedLemmas.{AreCounted-more, AreCounted-sound, AreCounted-until}
-use Rattle.aeth_components.proofs.CountedLemmas.{counted-all, noted-all}
-use Rattle.aeth_components.specs.Channels.{ChannelsState}
-use Rattle.aeth_components.specs.declared.lane.Lane.{Lane}
+use Rattle.aeth_components.proofs.CountedLemmas.{AreCounted-more, AreCounted-sound}
+use Rattle.aeth_components.proofs.CountedLemmas.{AreCounted-until, counted-all, noted-all}
+use Rattle.aeth_components.specs.{Channels.ChannelsState, declared.lane.Lane.Lane}
+use Rattle.aeth_components.proofs.channels.Channels.count_busy.Goals as goal
 
 -- The channels before the first one that is marked are idle.
 pub turns-init : goal.turns-init

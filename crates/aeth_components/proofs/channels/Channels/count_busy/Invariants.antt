@@ -1,6 +1,6 @@
 use Rattle.std.proofs.Common.{◌≡◌, ◌≤◌, ◌-◌, ◌==◌, length}
-use Rattle.aeth_components.proofs.channels.Channels.count_busy.Given as goal
 use Rattle.aeth_components.proofs.CountedLemmas.{AreCounted}
+use Rattle.aeth_components.proofs.channels.Channels.count_busy.Given as goal
 
 -- The channels at the interface so far are counted.
 abbrev pub invariant-turns : goal.invariant-turns

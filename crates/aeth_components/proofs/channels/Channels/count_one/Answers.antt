@@ -1,14 +1,12 @@
 use Rattle.std.proofs.Common.{◌≡◌, ◌∙◌, ap, arith, length, refl, set, slice_get, Some, sym}
-use Rattle.aeth_components.proofs.HomeLemmas.{IsIdle-counted}
-use Rattle.aeth_components.proofs.HomeLemmas.{AreHomes-kept, StaysAtHome-counted}
 use Rattle.std.proofs.lemmas.Option.{same_Some, slice_get_read}
-use Rattle.aeth_components.proofs.channels.Channels.count_one.Goals as goal
+use Rattle.aeth_components.proofs.HomeLemmas.{IsIdle-counted, AreHomes-kept, StaysAtHome-counted}
 use Rattle.aeth_components.proofs.channels.Channels.count_one.Goals.{After-count_one}
 use Rattle.aeth_components.proofs.LaneLemmas.{set-with_lane}
 use Rattle.aeth_components.proofs.MarkLemmas.{AreMarked-marked, AreMarked-set}
-use Rattle.aeth_components.specs.Channels.{ChannelsState, OfLane}
-use Rattle.aeth_components.specs.Counting.{counted, noted}
-use Rattle.aeth_components.specs.Lanes.{with_lane}
+use Rattle.aeth_components.specs.{Channels.ChannelsState, Channels.OfLane, Counting.counted}
+use Rattle.aeth_components.specs.{Counting.noted, Lanes.with_lane}
+use Rattle.aeth_components.proofs.channels.Channels.count_one.Goals as goal
 
 -- The channel at its place.
 at : (c : goal.After-count_one)

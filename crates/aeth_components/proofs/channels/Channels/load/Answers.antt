@@ -1,7 +1,6 @@
 use Rattle.std.proofs.Common.{ap, arith, length}
-use Rattle.aeth_components.specs.Channels.{ChannelsState}
+use Rattle.aeth_components.{specs.Channels.ChannelsState, proofs.MarkLemmas.AreMarked-marked}
 use Rattle.aeth_components.proofs.channels.Channels.load.Goals as goal
-use Rattle.aeth_components.proofs.MarkLemmas.{AreMarked-marked}
 
 -- The channel is marked.
 pub invariant_of-self : goal.invariant_of-self

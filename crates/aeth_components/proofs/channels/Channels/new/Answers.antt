@@ -1,6 +1,6 @@
 use Rattle.std.proofs.Common.{subst}
-use Rattle.aeth_components.proofs.channels.Channels.new.Goals as goal
 use Rattle.aeth_components.specs.Busy.{AreNoted}
+use Rattle.aeth_components.proofs.channels.Channels.new.Goals as goal
 
 -- What was noted is of these channels.
 pub invariant_of-result : goal.invariant_of-result

@@ -1,14 +1,12 @@
 use Rattle.std.proofs.Common.{◌≡◌, ◌≤◌, ◌<◌, ◌+◌, ◌∙◌, ℕ, List, arith, length, refl}
 use Rattle.aeth_base.specs.Marks.{bit_of}
-use Rattle.aeth_components.proofs.channels.Channels.refill.Goals as goal
 use Rattle.aeth_components.proofs.FullLemmas.{refilled-rests}
 use Rattle.aeth_components.proofs.SkipLemmas.{HaveTurned-all, HaveTurned-first, HaveTurned-frames}
 use Rattle.aeth_components.proofs.SkipLemmas.{HaveTurned-next, HaveTurned-sound}
 use Rattle.aeth_components.proofs.TurnLemmas.{IsLane-refilled, frames-refilled}
-use Rattle.aeth_components.specs.Channels.{AreStill}
-use Rattle.aeth_components.specs.Handing.{AreHanding}
-use Rattle.aeth_components.specs.Phases.{Moment, refilled}
-use Rattle.aeth_components.specs.declared.handing.Handing.{Handing}
+use Rattle.aeth_components.specs.{Channels.AreStill, Handing.AreHanding, Phases.Moment}
+use Rattle.aeth_components.specs.{Phases.refilled, declared.handing.Handing.Handing}
+use Rattle.aeth_components.proofs.channels.Channels.refill.Goals as goal
 
 -- Channels that aren't marked are left alone.
 still : (words : List ℕ) (cycle : ℕ) (now : Moment) (handing : Handing) (from to : ℕ)

@@ -1,10 +1,8 @@
 use Rattle.std.proofs.Common.{◌≡◌, ◌≤◌, ◌<◌, ◌-◌, length}
 use Rattle.aeth_base.specs.Marks.{bit_of}
-use Rattle.aeth_components.proofs.channels.Channels.refill.Given as goal
 use Rattle.aeth_components.proofs.SkipLemmas.{HaveTurned}
-use Rattle.aeth_components.specs.Phases.{refilled}
-use Rattle.aeth_components.specs.Handing.{AreHanding}
-use Rattle.aeth_components.specs.Injecting.{AreInjecting}
+use Rattle.aeth_components.specs.{Phases.refilled, Handing.AreHanding, Injecting.AreInjecting}
+use Rattle.aeth_components.proofs.channels.Channels.refill.Given as goal
 
 -- The channels so far have had their turns.
 abbrev pub invariant-turns : goal.invariant-turns

@@ -1,18 +1,15 @@
 use Rattle.std.proofs.Common.{◌≡◌, ◌∙◌, List, ap, arith, length, refl, slice_get, Some}
-use Rattle.std.proofs.lemmas.List.{get_or-set_same}
+use Rattle.std.proofs.Common.{get_or-set_same}
 use Rattle.std.proofs.lemmas.Option.{slice_get_read}
-use Rattle.aeth_components.proofs.HomeLemmas.{AreHomes-kept, StaysAtHome-refilled}
+use Rattle.aeth_components.proofs.{HomeLemmas.AreHomes-kept, HomeLemmas.StaysAtHome-refilled}
+use Rattle.aeth_components.proofs.{channels.Channels.refill_one.Goals.After-refill_one}
+use Rattle.aeth_components.proofs.{MarkLemmas.AreMarked-turned, MarkLemmas.kept-alone}
+use Rattle.aeth_components.proofs.{SkipLemmas.turned-there, TurnLemmas.TakesNothing-refilled}
+use Rattle.aeth_components.proofs.{TurnLemmas.refilled-none, WaitingLemmas.AreHanding-settled}
+use Rattle.aeth_components.specs.{declared.lane.Lane.Lane, Busy.IsIdle, Channels.ChannelsState}
+use Rattle.aeth_components.specs.{Phases.Moment, Phases.refilled}
 use Rattle.aeth_router.specs.declared.part.Part.{Part}
-use Rattle.aeth_components.specs.declared.lane.Lane.{Lane}
 use Rattle.aeth_components.proofs.channels.Channels.refill_one.Goals as goal
-use Rattle.aeth_components.proofs.channels.Channels.refill_one.Goals.{After-refill_one}
-use Rattle.aeth_components.proofs.MarkLemmas.{AreMarked-turned, kept-alone}
-use Rattle.aeth_components.proofs.SkipLemmas.{turned-there}
-use Rattle.aeth_components.proofs.TurnLemmas.{TakesNothing-refilled, refilled-none}
-use Rattle.aeth_components.specs.Busy.{IsIdle}
-use Rattle.aeth_components.proofs.WaitingLemmas.{AreHanding-settled}
-use Rattle.aeth_components.specs.Channels.{ChannelsState}
-use Rattle.aeth_components.specs.Phases.{Moment, refilled}
 
 -- The channel has a mark.
 pub settle-requires-clause-number : goal.settle-requires-clause-number

@@ -1,11 +1,10 @@
 use Rattle.std.proofs.Common.{◌≡◌, ◌+◌, ◌∙◌, ℕ, arith, length, refl}
-use Rattle.aeth_components.proofs.channels.Channels.take.Goals as goal
 use Rattle.aeth_components.proofs.SkipLemmas.{HaveTurned-all, HaveTurned-first, HaveTurned-frames}
 use Rattle.aeth_components.proofs.SkipLemmas.{HaveTurned-next, HaveTurned-sound}
 use Rattle.aeth_components.proofs.TurnLemmas.{IsLane-pulled, frames-pulled, pulled-none}
-use Rattle.aeth_components.specs.Busy.{TakesNothing}
-use Rattle.aeth_components.specs.Channels.{AreStill}
-use Rattle.aeth_components.specs.Phases.{Moment, pulled}
+use Rattle.aeth_components.specs.{Busy.TakesNothing, Channels.AreStill, Phases.Moment}
+use Rattle.aeth_components.specs.{Phases.pulled}
+use Rattle.aeth_components.proofs.channels.Channels.take.Goals as goal
 
 -- Channels whose receivers take nothing are left alone.
 still : (cycle : ℕ) (now : Moment) (from to : ℕ) → AreStill TakesNothing now.lanes from to

@@ -1,8 +1,7 @@
 use Rattle.std.proofs.Common.{◌≡◌, ◌≤◌, ◌-◌, length}
-use Rattle.aeth_components.proofs.channels.Channels.take.Given as goal
 use Rattle.aeth_components.proofs.SkipLemmas.{HaveTurned}
-use Rattle.aeth_components.specs.Injecting.{AreInjecting}
-use Rattle.aeth_components.specs.Phases.{pulled}
+use Rattle.aeth_components.specs.{Injecting.AreInjecting, Phases.pulled}
+use Rattle.aeth_components.proofs.channels.Channels.take.Given as goal
 
 -- The channels so far have had their turns.
 abbrev pub invariant-turns : goal.invariant-turns

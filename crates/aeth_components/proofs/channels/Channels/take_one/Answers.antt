@@ -1,16 +1,13 @@
 use Rattle.std.proofs.Common.{◌≡◌, List, ap, arith, inl, length, refl, slice_get, Some}
 use Rattle.std.proofs.lemmas.Option.{slice_get_read}
 use Rattle.aeth_router.specs.declared.part.Part.{Part}
-use Rattle.aeth_components.specs.declared.lane.Lane.{Lane}
-use Rattle.aeth_components.proofs.HomeLemmas.{AreHomes-kept, StaysAtHome-pulled}
+use Rattle.aeth_components.specs.{declared.lane.Lane.Lane, Busy.IsIdle, Busy.TakesNothing}
+use Rattle.aeth_components.specs.{Channels.ChannelsState, Phases.pulled}
+use Rattle.aeth_components.proofs.{HomeLemmas.AreHomes-kept, HomeLemmas.StaysAtHome-pulled}
+use Rattle.aeth_components.proofs.{channels.Channels.take_one.Goals.After-take_one}
+use Rattle.aeth_components.proofs.{MarkLemmas.AreMarked-turned, MarkLemmas.kept-alone}
+use Rattle.aeth_components.proofs.{SkipLemmas.turned-there, TurnLemmas.pulled-none}
 use Rattle.aeth_components.proofs.channels.Channels.take_one.Goals as goal
-use Rattle.aeth_components.proofs.channels.Channels.take_one.Goals.{After-take_one}
-use Rattle.aeth_components.proofs.MarkLemmas.{AreMarked-turned, kept-alone}
-use Rattle.aeth_components.proofs.SkipLemmas.{turned-there}
-use Rattle.aeth_components.proofs.TurnLemmas.{pulled-none}
-use Rattle.aeth_components.specs.Busy.{IsIdle, TakesNothing}
-use Rattle.aeth_components.specs.Channels.{ChannelsState}
-use Rattle.aeth_components.specs.Phases.{pulled}
 
 -- The channel at its place.
 at : (c : goal.After-take_one)

@@ -1,12 +1,9 @@
-use Rattle.std.proofs.Common.{ap, arith, length}
-use Rattle.std.proofs.lemmas.List.Elements.{All-set}
+use Rattle.std.proofs.{Common.ap, Common.arith, Common.length, lemmas.List.Elements.All-set}
 use Rattle.aeth_base.proofs.Members.{All-slice_get}
-use Rattle.aeth_components.proofs.components.Components.accept.Goals as goal
 use Rattle.aeth_components.proofs.LaneLemmas.{lane-within, with_lane-set}
 use Rattle.aeth_components.proofs.WaitingLemmas.{AreHanding-marked}
-use Rattle.aeth_components.specs.Components.{ComponentsState}
-use Rattle.aeth_components.specs.Lanes.{IsLane}
-use Rattle.aeth_components.specs.declared.lane.Lane.{Lane}
+use Rattle.aeth_components.specs.{Components.ComponentsState, Lanes.IsLane, declared.lane.Lane.Lane}
+use Rattle.aeth_components.proofs.components.Components.accept.Goals as goal
 
 -- The channel has a mark.
 pub mark-requires : goal.mark-requires

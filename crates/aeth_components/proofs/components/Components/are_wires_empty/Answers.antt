@@ -1,7 +1,6 @@
-use Rattle.std.proofs.Common.{◌∙◌, sym}
-use Rattle.std.proofs.lemmas.Bool.{eq-eqb, eqb-true}
-use Rattle.aeth_components.proofs.components.Components.are_wires_empty.Goals as goal
+use Rattle.std.proofs.Common.{◌∙◌, sym, eq-eqb, eqb-true}
 use Rattle.aeth_components.proofs.FlitLemmas.{flits_on-none, none-flits_on}
+use Rattle.aeth_components.proofs.components.Components.are_wires_empty.Goals as goal
 
 -- The flits on the wires are counted.
 pub returns : goal.returns

@@ -1,5 +1,4 @@
 use Rattle.std.proofs.Common.{◌≡◌, ◌++◌, ◌∙◌, ap, drop, length, refl, sym, take}
-use Rattle.aeth_components.proofs.components.Components.enter.Goals as goal
 use Rattle.aeth_components.proofs.components.Components.enter.Goals.{After-enter_all}
 use Rattle.aeth_components.proofs.EnteringLemmas.{IsComponents-entered, frames-entered}
 use Rattle.aeth_components.proofs.EnteringLemmas.{queue_of-entered, tables-entered, ways-entered}
@@ -7,9 +6,9 @@ use Rattle.aeth_components.proofs.RoomLemmas.{IsFull-entered}
 use Rattle.aeth_components.proofs.SeenCycle.{TakesRows-bare, with_rows-seen}
 use Rattle.aeth_components.proofs.WaitingLemmas.{AreHanding-kept}
 use Rattle.aeth_components.proofs.WokenLemmas.{AreInjecting-kept}
+use Rattle.aeth_components.specs.{Components.components_of, Entering.with_rows}
 use Rattle.aeth_base.proofs.Lists.{written_back}
-use Rattle.aeth_components.specs.Components.{components_of}
-use Rattle.aeth_components.specs.Entering.{with_rows}
+use Rattle.aeth_components.proofs.components.Components.enter.Goals as goal
 
 -- The rows are in range of the routers, whatever these hold.
 pub enter_all-requires : goal.enter_all-requires

@@ -1,8 +1,7 @@
 use Rattle.std.proofs.Common.{◌∙◌, ap, arith, length, sym}
 use Rattle.std.proofs.lemmas.List.{length-map}
+use Rattle.aeth_components.specs.{Components.ComponentsState, Seen.seen}
 use Rattle.aeth_components.proofs.components.Components.len.Goals as goal
-use Rattle.aeth_components.specs.Components.{ComponentsState}
-use Rattle.aeth_components.specs.Seen.{seen}
 
 -- There are as many, whatever they hold.
 pub returns : goal.returns

@@ -1,11 +1,8 @@
 use Rattle.std.proofs.Common.{ap, arith, length}
-use Rattle.std.proofs.lemmas.List.{length-map}
-use Rattle.std.proofs.lemmas.List.Elements.{All-set}
-use Rattle.aeth_components.proofs.components.Components.load.Goals as goal
+use Rattle.std.proofs.lemmas.List.{length-map, Elements.All-set}
 use Rattle.aeth_components.proofs.WaitingLemmas.{AreHanding-marked}
-use Rattle.aeth_components.specs.Components.{ComponentsState}
-use Rattle.aeth_components.specs.Lanes.{IsLane}
-use Rattle.aeth_components.specs.Seen.{seen}
+use Rattle.aeth_components.specs.{Components.ComponentsState, Lanes.IsLane, Seen.seen}
+use Rattle.aeth_components.proofs.components.Components.load.Goals as goal
 
 -- The channel has a mark.
 pub mark-requires : goal.mark-requires

@@ -1,17 +1,12 @@
 use Rattle.std.proofs.Common.{◌≡◌, ◌++◌, ◌∙◌, ap, drop, length, refl, take}
-use Rattle.aeth_components.proofs.components.Components.prepare.Goals as goal
-use Rattle.aeth_components.proofs.components.Components.prepare.Goals.{After-switch}
-use Rattle.aeth_components.proofs.CycleLemmas.{IsComponents-switched}
-use Rattle.aeth_components.proofs.SeenPhases.{ways-switched}
-use Rattle.aeth_components.proofs.PartLemmas.{frames-switched}
-use Rattle.aeth_components.proofs.ReadyLemmas.{AreReady-noted}
-use Rattle.aeth_components.proofs.RoomLemmas.{IsFull-switched}
-use Rattle.aeth_components.proofs.WaitingLemmas.{AreHanding-woken}
+use Rattle.aeth_components.proofs.{components.Components.prepare.Goals.After-switch}
+use Rattle.aeth_components.proofs.{CycleLemmas.IsComponents-switched, SeenPhases.ways-switched}
+use Rattle.aeth_components.proofs.{PartLemmas.frames-switched, ReadyLemmas.AreReady-noted}
+use Rattle.aeth_components.proofs.{RoomLemmas.IsFull-switched, WaitingLemmas.AreHanding-woken}
+use Rattle.aeth_components.proofs.{SeenLemmas.frames-seen, SeenLemmas.switched-seen}
+use Rattle.aeth_components.specs.{Changes.switched, Components.components_of, Handing.HasEvent}
 use Rattle.aeth_base.proofs.Lists.{written_back}
-use Rattle.aeth_components.specs.Changes.{switched}
-use Rattle.aeth_components.specs.Components.{components_of}
-use Rattle.aeth_components.proofs.SeenLemmas.{frames-seen, switched-seen}
-use Rattle.aeth_components.specs.Handing.{HasEvent}
+use Rattle.aeth_components.proofs.components.Components.prepare.Goals as goal
 
 -- The events suit the components, whatever these hold.
 pub switch-requires-clause-events : goal.switch-requires-clause-events

@@ -1,32 +1,26 @@
-use Rattle.std.proofs.Common.{◌≡◌, ◌<◌, ◌==◌, ◌++◌, ◌∙◌, ap, arith, drop, refl, sym, Bool, List, None, Some, ℕ}
-use Rattle.std.proofs.Common.{false, if◌then◌else◌, length, length-set, map, set, slice_get, subst, take}
-use Rattle.std.specs.Prelude.{slice_index}
-use Rattle.std.proofs.lemmas.Bool.{or_parts}
-use Rattle.std.proofs.lemmas.List.{length-map, map-set}
-use Rattle.std.proofs.lemmas.List.Elements.{All-set}
-use Rattle.std.proofs.lemmas.Option.{slice_get_within}
-use Rattle.aeth_base.proofs.Lists.{slice_get-slice_set_other, slice_get-slice_set_same, written_back}
+use Rattle.std.proofs.Common.{◌≡◌, ◌<◌, ◌==◌, ◌++◌, ◌∙◌, ap, arith, drop, refl, sym, Bool, List}
+use Rattle.std.proofs.Common.{None, Some, ℕ, false, if◌then◌else◌, length, length-set, map, set}
+use Rattle.std.proofs.Common.{slice_get, subst, take, slice_index}
+use Rattle.std.proofs.lemmas.{Bool.or_parts, List.length-map, List.map-set, List.Elements.All-set}
+use Rattle.std.proofs.lemmas.{Option.slice_get_within}
+use Rattle.aeth_base.proofs.Lists.{slice_get-slice_set_other, slice_get-slice_set_same}
+use Rattle.aeth_base.proofs.Lists.{written_back}
 use Rattle.aeth_clocked.specs.Wires.{flit_on}
 use Rattle.aeth_router.specs.declared.part.Part.{Part}
 use Rattle.aeth_router.specs.declared.part.Part.TheVariants.{Interface, Router, Stage, TableRouter}
+use Rattle.aeth_components.proofs.{components.Components.put.Goals.After-lose}
+use Rattle.aeth_components.proofs.{components.Components.put.Goals.After-set}
+use Rattle.aeth_components.proofs.{CycleLemmas.IsComponents-replaced, CycleLemmas.views-slice_set}
+use Rattle.aeth_components.proofs.{ReplacedLemmas.all_seen-replaced, ReplacedLemmas.receives-there}
+use Rattle.aeth_components.proofs.{ReplacedLemmas.without_held-is, RoomLemmas.IsFull-replaced}
+use Rattle.aeth_components.proofs.{SeenLemmas.frames-seen, TableLemmas.may_send-replaced}
+use Rattle.aeth_components.proofs.{TableLemmas.tables-replaced, WaitingLemmas.AreHanding-kept}
+use Rattle.aeth_components.proofs.{WokenLemmas.AreInjecting-kept}
+use Rattle.aeth_components.specs.{Changes.told_by, Components.components_of, Components.frames_of}
+use Rattle.aeth_components.specs.{Ends.AreEnds, Ends.is_interface, Frames.Frame, Frames.IsWired}
+use Rattle.aeth_components.specs.{Frames.frame_of, Handing.room_left, Passing.way_of}
+use Rattle.aeth_components.specs.{Replacing.without_held, declared.turns.Turns.Turns}
 use Rattle.aeth_components.proofs.components.Components.put.Goals as goal
-use Rattle.aeth_components.proofs.components.Components.put.Goals.{After-lose, After-set}
-use Rattle.aeth_components.proofs.CycleLemmas.{IsComponents-replaced, views-slice_set}
-use Rattle.aeth_components.proofs.ReplacedLemmas.{all_seen-replaced, receives-there}
-use Rattle.aeth_components.proofs.ReplacedLemmas.{without_held-is}
-use Rattle.aeth_components.proofs.RoomLemmas.{IsFull-replaced}
-use Rattle.aeth_components.proofs.SeenLemmas.{frames-seen}
-use Rattle.aeth_components.proofs.TableLemmas.{may_send-replaced, tables-replaced}
-use Rattle.aeth_components.proofs.WaitingLemmas.{AreHanding-kept}
-use Rattle.aeth_components.proofs.WokenLemmas.{AreInjecting-kept}
-use Rattle.aeth_components.specs.Changes.{told_by}
-use Rattle.aeth_components.specs.Components.{components_of, frames_of}
-use Rattle.aeth_components.specs.Ends.{AreEnds, is_interface}
-use Rattle.aeth_components.specs.Frames.{Frame, IsWired, frame_of}
-use Rattle.aeth_components.specs.Handing.{room_left}
-use Rattle.aeth_components.specs.Passing.{way_of}
-use Rattle.aeth_components.specs.Replacing.{without_held}
-use Rattle.aeth_components.specs.declared.turns.Turns.{Turns}
 
 -- A component that is no interface has no room.
 room-other : (part : Part) → is_interface (frame_of part) ≡ false

@@ -1,8 +1,7 @@
 use Rattle.std.proofs.Common.{◌∙◌, List, ap, get_or, set}
-use Rattle.aeth_components.proofs.components.Components.set_pull.Goals as goal
-use Rattle.aeth_components.specs.declared.lane.Lane.{Lane}
+use Rattle.aeth_components.specs.{declared.lane.Lane.Lane, Components.ComponentsState}
 use Rattle.aeth_components.proofs.LaneLemmas.{set-with_lane}
-use Rattle.aeth_components.specs.Components.{ComponentsState}
+use Rattle.aeth_components.proofs.components.Components.set_pull.Goals as goal
 
 -- The channel has changed.
 pub returns : goal.returns

@@ -1,7 +1,5 @@
 use Rattle.std.proofs.Common.{◌≡◌, ◌∙◌, ◌++◌, ap, arith, drop, length, map, refl, sym, take}
 use Rattle.aeth_base.proofs.Lists.{written_back}
-use Rattle.aeth_components.proofs.components.Components.step_counted.Given as given
-use Rattle.aeth_components.proofs.components.Components.step_counted.Goals as goal
 use Rattle.aeth_components.proofs.components.Components.step_counted.Goals.{After-land, After-run}
 use Rattle.aeth_components.proofs.components.Components.step_counted.Goals.{After-deref_mut-2}
 use Rattle.aeth_components.proofs.CountedCycle.{Cycle-counted, IsComponents-counted}
@@ -9,12 +7,12 @@ use Rattle.aeth_components.proofs.FrameLemmas.{length-wires_driven}
 use Rattle.aeth_components.proofs.SeenLemmas.{frames-seen}
 use Rattle.aeth_components.proofs.SeenPhases.{Runs-landed, frames-landed, ways-landed}
 use Rattle.aeth_components.proofs.WaitingLemmas.{AreHanding-landed}
-use Rattle.aeth_components.specs.Components.{ComponentsState, Runs, components_of, ready_of}
-use Rattle.aeth_components.specs.Frames.{frame_of}
-use Rattle.aeth_components.specs.Passing.{way_of}
-use Rattle.aeth_components.specs.Phases.{Moment}
-use Rattle.aeth_components.specs.Ready.{AreReady}
-use Rattle.aeth_components.specs.Seen.{all_seen, flits_landed, interfaces_latched}
+use Rattle.aeth_components.specs.{Components.ComponentsState, Components.Runs}
+use Rattle.aeth_components.specs.{Components.components_of, Components.ready_of, Frames.frame_of}
+use Rattle.aeth_components.specs.{Passing.way_of, Phases.Moment, Ready.AreReady, Seen.all_seen}
+use Rattle.aeth_components.specs.{Seen.flits_landed, Seen.interfaces_latched}
+use Rattle.aeth_components.proofs.components.Components.step_counted.Given as given
+use Rattle.aeth_components.proofs.components.Components.step_counted.Goals as goal
 
 -- What the run requires holds of the components in their vector.
 pub run-requires : goal.run-requires

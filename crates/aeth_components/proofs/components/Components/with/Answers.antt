@@ -3,11 +3,10 @@ use Rattle.std.proofs.lemmas.List.{length-replicate}
 use Rattle.aeth_chip.proofs.WireLemmas.{have_delays, wires_of-split}
 use Rattle.aeth_chip.specs.Wires.{wires_of}
 use Rattle.aeth_clocked.specs.declared.flit.Flit.{Flit}
-use Rattle.aeth_components.proofs.components.Components.with.Goals as goal
-use Rattle.aeth_components.proofs.KindLemmas.{frames-kind, length-kind}
-use Rattle.aeth_components.proofs.MadeLemmas.{IsWired-new}
-use Rattle.aeth_components.proofs.SeenCycle.{new_parts-seen}
+use Rattle.aeth_components.proofs.{KindLemmas.frames-kind, KindLemmas.length-kind}
+use Rattle.aeth_components.proofs.{MadeLemmas.IsWired-new, SeenCycle.new_parts-seen}
 use Rattle.aeth_components.specs.Making.{new_parts}
+use Rattle.aeth_components.proofs.components.Components.with.Goals as goal
 
 -- The components are wired by the chip's wires.
 pub invariant_of-result : goal.invariant_of-result

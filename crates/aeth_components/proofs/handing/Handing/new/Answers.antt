@@ -1,9 +1,8 @@
 use Rattle.std.proofs.Common.{◌<◌, arith, subst, sym}
+use Rattle.std.proofs.lemmas.{List.Elements.All-replicate, Option.slice_get_within}
 use Rattle.std.specs.List.{All}
-use Rattle.std.proofs.lemmas.List.Elements.{All-replicate}
 use Rattle.aeth_base.specs.Marks.{room_of}
 use Rattle.aeth_components.specs.Homes.{home_count}
-use Rattle.std.proofs.lemmas.Option.{slice_get_within}
 use Rattle.aeth_components.proofs.handing.Handing.new.Goals as goal
 
 -- All channels are marked, and none waits.

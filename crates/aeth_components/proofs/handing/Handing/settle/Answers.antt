@@ -1,12 +1,10 @@
-use Rattle.std.proofs.Common.{◌∙◌, ap, arith, inl, inr, refl, Some, sym}
-use Rattle.std.proofs.lemmas.Bool.{ne_eqb}
+use Rattle.std.proofs.Common.{◌∙◌, ap, arith, inl, inr, refl, Some, sym, ne_eqb}
 use Rattle.std.proofs.lemmas.Option.{slice_get-get_or}
-use Rattle.aeth_base.specs.Marks.{bit_of}
-use Rattle.aeth_base.proofs.MarkedLemmas.{is_marked-zero}
+use Rattle.aeth_base.{specs.Marks.bit_of, proofs.MarkedLemmas.is_marked-zero}
 use Rattle.aeth_components.proofs.WakingLemmas.{Settles-waits}
-use Rattle.aeth_components.proofs.handing.Handing.settle.Goals as goal
 use Rattle.aeth_components.proofs.handing.Handing.settle.Goals.{then-is_own-via-then-is_own}
 use Rattle.aeth_components.proofs.handing.Handing.settle.Goals.{then-is_own-via-else-is_own+then-not-has}
+use Rattle.aeth_components.proofs.handing.Handing.settle.Goals as goal
 
 -- The channel waits at a place that is free, or its own.
 pub returns-then-is_own : goal.returns-then-is_own

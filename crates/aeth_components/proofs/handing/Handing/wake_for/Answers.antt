@@ -1,11 +1,7 @@
-use Rattle.std.proofs.Common.{[], ◌+◌, ◌∙◌, ap, inl, inr, List, sym, take}
-use Rattle.std.specs.Prelude.{◌==◌}
+use Rattle.std.proofs.Common.{[], ◌+◌, ◌∙◌, ap, inl, inr, List, sym, take, ◌==◌, take_all}
 use Rattle.std.specs.List.{list_any}
-use Rattle.std.proofs.lemmas.List.{take_all}
 use Rattle.aeth_components.proofs.WakingLemmas.{Wakes-more, Wakes-none, Wakes-same, among-more}
-use Rattle.aeth_components.specs.Events.{event_part}
-use Rattle.aeth_components.specs.Handing.{HasEvent}
-use Rattle.aeth_components.specs.declared.event.Event.{Event}
+use Rattle.aeth_components.specs.{Events.event_part, Handing.HasEvent, declared.event.Event.Event}
 use Rattle.aeth_components.proofs.handing.Handing.wake_for.Goals as goal
 
 -- No event yet.

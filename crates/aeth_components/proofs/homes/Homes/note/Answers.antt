@@ -2,8 +2,8 @@ use Rattle.std.proofs.Common.{◌∙◌, List, ap, arith, length, length-set, sl
 use Rattle.aeth_base.proofs.Lists.{written_back}
 use Rattle.aeth_components.specs.Homes.{home_at}
 use Rattle.aeth_components.proofs.HomeLemmas.{AreHomes-set, home-changed}
-use Rattle.aeth_components.proofs.homes.Homes.note.Goals as goal
 use Rattle.aeth_components.proofs.homes.Homes.note.Goals.{then-self, else-self}
+use Rattle.aeth_components.proofs.homes.Homes.note.Goals as goal
 
 -- The channel has come to its place, or another one is there.
 pub returns-after-self : goal.returns-after-self

@@ -1,7 +1,5 @@
-use Rattle.std.proofs.Common.{◌≡◌, ◌≢◌, ◌<◌, ℕ}
-use Rattle.std.specs.Prelude.{◌⊎◌}
-use Rattle.aeth_base.specs.Limits.{max_slots}
-use Rattle.aeth_base.specs.Marks.{room_of}
+use Rattle.std.proofs.Common.{◌≡◌, ◌≢◌, ◌<◌, ℕ, ◌⊎◌}
+use Rattle.aeth_base.specs.{Limits.max_slots, Marks.room_of}
 use Rattle.aeth_components.specs.Injecting.{IsEntered}
 use Rattle.aeth_components.proofs.injecting.Injecting.clear.Given as goal
 

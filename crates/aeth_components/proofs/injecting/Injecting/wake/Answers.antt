@@ -1,6 +1,6 @@
-use Rattle.std.proofs.Common.{◌≡◌, ◌<◌, ◌+◌, ◌-◌, ◌∙◌, ℕ, List, [], ap, arith, inl, inr, length, set}
+use Rattle.std.proofs.Common.{◌≡◌, ◌<◌, ◌+◌, ◌-◌, ◌∙◌, ℕ, List, [], ap, arith, inl, inr, length}
+use Rattle.std.proofs.Common.{set, get_or-set_same}
 use Rattle.std.proofs.lemmas.Bool.{cases_eq, cases_lt}
-use Rattle.std.proofs.lemmas.List.{get_or-set_same}
 use Rattle.aeth_base.specs.Marks.{bit_of}
 use Rattle.aeth_components.specs.Injecting.{marks_at, place_of_entry}
 use Rattle.aeth_components.proofs.WokenLemmas.{MarksMore-more, MarksMore-set}

@@ -1,6 +1,6 @@
 use Rattle.std.proofs.Common.{arith}
-use Rattle.aeth_components.proofs.noted.Noted.of.Goals as goal
 use Rattle.aeth_components.proofs.MarkLemmas.{AreMarked-all}
+use Rattle.aeth_components.proofs.noted.Noted.of.Goals as goal
 
 -- All channels are marked, and no words are noted.
 pub returns : goal.returns

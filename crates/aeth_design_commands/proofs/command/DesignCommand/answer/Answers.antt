@@ -1,7 +1,5 @@
-use Rattle.aeth_answers.specs.Places.{files_of}
-use Rattle.aeth_answers.proofs.FileLemmas.{Answers-ended}
-use Rattle.aeth_design_commands.specs.Server.{latency_job}
-use Rattle.aeth_design_commands.specs.Slots.{chosen_job}
+use Rattle.aeth_answers.{specs.Places.files_of, proofs.FileLemmas.Answers-ended}
+use Rattle.aeth_design_commands.specs.{Server.latency_job, Slots.chosen_job}
 use Rattle.aeth_design_commands.proofs.SlotJobs.{chosen_job-is, latency_job-is}
 use Rattle.aeth_design_commands.proofs.command.DesignCommand.answer.Goals as goal
 

@@ -1,7 +1,5 @@
 use Rattle.std.proofs.Common.{◌≡◌, map}
-use Rattle.aeth_document.specs.Keys.{fields_view, wrong_key}
-use Rattle.aeth_document.specs.Arrays.{tables_in}
-use Rattle.aeth_document.specs.Walks.{walked}
+use Rattle.aeth_document.specs.{Keys.fields_view, Keys.wrong_key, Arrays.tables_in, Walks.walked}
 use Rattle.aeth_document.proofs.walk.Walk.keys.Given as goal
 
 abbrev pub invariant-loop-table : goal.invariant-loop-table

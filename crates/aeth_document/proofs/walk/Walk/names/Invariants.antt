@@ -1,6 +1,5 @@
 use Rattle.std.proofs.Common.{◌≡◌, map}
-use Rattle.aeth_document.specs.Arrays.{texts_in}
-use Rattle.aeth_document.specs.Walks.{no_name, walked}
+use Rattle.aeth_document.specs.{Arrays.texts_in, Walks.no_name, Walks.walked}
 use Rattle.aeth_document.proofs.walk.Walk.names.Given as goal
 
 abbrev pub invariant-loop-text : goal.invariant-loop-text

@@ -1,8 +1,6 @@
 use Rattle.std.proofs.Common.{rules}
-use Rattle.std.specs.Cmp.{nat_cmp_total, on_total}
-use Rattle.std.specs.Ordering.{is_lt}
-use Rattle.std.proofs.lemmas.Cmp.{lists_total}
-use Rattle.std.proofs.lemmas.List.Sorted.{answers_always, ranks_by}
+use Rattle.std.proofs.lemmas.{Cmp.lists_total, List.Sorted.answers_always, List.Sorted.ranks_by}
+use Rattle.std.specs.{Cmp.nat_cmp_total, Cmp.on_total, Ordering.is_lt}
 use Rattle.aeth_base.specs.declared.ids.LinkId.{LinkId}
 use Rattle.aeth_explain.specs.Order.{dictionary}
 use Rattle.aeth_explain.proofs.cuts.Cuts.in_order.Goals as goal

@@ -1,6 +1,5 @@
-use Rattle.std.proofs.Common.{◌≡◌, ◌∙◌, [], ◌∷◌, Contains, List, Some, ap, arith, inl, inr, length, length-append}
-use Rattle.std.proofs.Common.{subst, sym}
-use Rattle.std.specs.Prelude.{slice_index}
+use Rattle.std.proofs.Common.{◌≡◌, ◌∙◌, [], ◌∷◌, Contains, List, Some, ap, arith, inl, inr, length}
+use Rattle.std.proofs.Common.{length-append, subst, sym, slice_index}
 use Rattle.std.proofs.lemmas.Bool.{cases_lt}
 use Rattle.aeth_base.specs.declared.ids.NiId.{NiId}
 use Rattle.aeth_chip.specs.Paths.{IsOnwardDistance}

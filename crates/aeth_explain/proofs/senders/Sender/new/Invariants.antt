@@ -1,7 +1,5 @@
-use Rattle.std.proofs.Common.{◌≡◌, ◌<◌, ◌≤◌, ◌+◌, ℕ, Contains, Some, length}
-use Rattle.std.specs.Prelude.{slice_index}
-use Rattle.aeth_base.specs.declared.ids.NiId.{NiId}
-use Rattle.aeth_base.specs.declared.ids.RouterId.{RouterId}
+use Rattle.std.proofs.Common.{◌≡◌, ◌<◌, ◌≤◌, ◌+◌, ℕ, Contains, Some, length, slice_index}
+use Rattle.aeth_base.specs.declared.ids.{NiId.NiId, RouterId.RouterId}
 use Rattle.aeth_chip.specs.Paths.{IsOnwardDistance}
 use Rattle.aeth_explain.proofs.senders.Sender.new.Given as goal
 

@@ -1,7 +1,5 @@
-use Rattle.std.proofs.Common.{◌≡◌, ◌∙◌, ◌+◌, ◌&&◌, Some, ap, drop, sym}
-use Rattle.std.specs.Prelude.{slice_get}
-use Rattle.aeth_explain.specs.Cuts.{are_joined}
-use Rattle.aeth_explain.specs.Masks.{TryJudgeData}
+use Rattle.std.proofs.Common.{◌≡◌, ◌∙◌, ◌+◌, ◌&&◌, Some, ap, drop, sym, slice_get}
+use Rattle.aeth_explain.specs.{Cuts.are_joined, Masks.TryJudgeData}
 use Rattle.aeth_explain.proofs.VerdictLemmas.{joined-step}
 use Rattle.aeth_explain.proofs.try_judge.TryJudge.are_joined.Goals as goal
 

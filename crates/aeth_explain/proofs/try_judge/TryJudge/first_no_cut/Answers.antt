@@ -1,9 +1,8 @@
 use Rattle.std.proofs.Common.{◌≡◌, ◌<◌, ◌∙◌, Bool, List, Some, ap, arith, get_or, length, not, sym}
-use Rattle.std.specs.Prelude.{slice_get}
+use Rattle.std.proofs.Common.{slice_get}
 use Rattle.std.proofs.lemmas.Option.{slice_get-get_or}
 use Rattle.aeth_base.specs.declared.ids.LinkId.{LinkId}
-use Rattle.aeth_explain.specs.Cuts.{is_cut}
-use Rattle.aeth_explain.specs.Masks.{TryJudgeData}
+use Rattle.aeth_explain.specs.{Cuts.is_cut, Masks.TryJudgeData}
 use Rattle.aeth_explain.proofs.PositionLemmas.{passes-none, position-at}
 use Rattle.aeth_explain.proofs.try_judge.TryJudge.first_no_cut.Goals as goal
 

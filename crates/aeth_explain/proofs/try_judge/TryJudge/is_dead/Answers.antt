@@ -1,18 +1,13 @@
-use Rattle.std.proofs.Common.{◌≡◌, ◌<◌, ◌≤◌, ◌+◌, ◌-◌, ◌∙◌, Some, ap, arith, length, not, refl}
-use Rattle.std.proofs.Common.{sym, take}
+use Rattle.std.proofs.Common.{◌≡◌, ◌<◌, ◌≤◌, ◌+◌, ◌-◌, ◌∙◌, Some, ap, arith, length, not, refl, sym}
+use Rattle.std.proofs.Common.{take, slice_get, take_all}
 use Rattle.std.specs.List.{range_with_len}
-use Rattle.std.specs.Prelude.{slice_get}
-use Rattle.std.proofs.lemmas.List.{take_all}
 use Rattle.aeth_base.specs.declared.ids.LinkId.{LinkId}
-use Rattle.aeth_slots.specs.Choice.{is_suitable}
-use Rattle.aeth_slots.specs.SlotSet.{all_slots}
+use Rattle.aeth_slots.specs.{Choice.is_suitable, SlotSet.all_slots}
 use Rattle.aeth_chip.specs.Paths.{delay_in, delay_of, offset, path_delay}
 use Rattle.aeth_chip.proofs.OffsetLemmas.{offset-more}
 use Rattle.aeth_group.proofs.ListLemmas.{all_at, take-at}
-use Rattle.aeth_book.specs.Book.{BookData}
-use Rattle.aeth_book.specs.Free.{free_starts, narrowed}
-use Rattle.aeth_book.proofs.FilterLemmas.{filter_none}
-use Rattle.aeth_book.proofs.FreeLemmas.{free-push}
+use Rattle.aeth_book.specs.{Book.BookData, Free.free_starts, Free.narrowed}
+use Rattle.aeth_book.proofs.{FilterLemmas.filter_none, FreeLemmas.free-push}
 use Rattle.aeth_paths.specs.Trials.{book_of}
 use Rattle.aeth_explain.specs.Masks.{TryJudgeData}
 use Rattle.aeth_explain.proofs.try_judge.TryJudge.is_dead.Goals as goal

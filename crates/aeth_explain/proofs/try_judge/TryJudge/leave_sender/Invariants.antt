@@ -1,5 +1,4 @@
-use Rattle.std.proofs.Common.{◌≡◌, drop}
-use Rattle.std.specs.List.{list_any}
+use Rattle.std.{proofs.Common.◌≡◌, proofs.Common.drop, specs.List.list_any}
 use Rattle.aeth_base.specs.declared.ids.NiId.{NiId}
 use Rattle.aeth_chip.specs.declared.node.Node.TheVariants.{Ni}
 use Rattle.aeth_explain.specs.Cuts.{are_joined}

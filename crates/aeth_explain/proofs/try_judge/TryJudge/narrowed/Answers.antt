@@ -1,8 +1,7 @@
 use Rattle.std.proofs.Common.{◌≡◌, ◌∙◌, List, ap, get_or, subst}
 use Rattle.std.proofs.lemmas.Option.{get_or_from_slice_get}
 use Rattle.aeth_slots.specs.SlotSet.{Slots, rotated, without}
-use Rattle.aeth_book.specs.Book.{BookData}
-use Rattle.aeth_book.specs.Free.{taken_slots}
+use Rattle.aeth_book.specs.{Book.BookData, Free.taken_slots}
 use Rattle.aeth_book.proofs.FreeLemmas.{back_by, narrowed-without}
 use Rattle.aeth_paths.specs.Trials.{book_of}
 use Rattle.aeth_explain.specs.Masks.{IsTryJudge, TryJudgeData}

@@ -1,5 +1,4 @@
-use Rattle.aeth_group.specs.Members.{is_member}
-use Rattle.aeth_group.proofs.Ranges.{Counted}
+use Rattle.aeth_group.{specs.Members.is_member, proofs.Ranges.Counted}
 use Rattle.aeth_group.proofs.groups.Groups.groups_with.Given as goal
 
 -- The groups so far are counted.

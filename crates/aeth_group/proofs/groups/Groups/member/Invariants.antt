@@ -1,5 +1,4 @@
-use Rattle.std.proofs.Common.{◌≡◌, drop}
-use Rattle.std.specs.List.{list_any}
+use Rattle.std.{proofs.Common.◌≡◌, proofs.Common.drop, specs.List.list_any}
 use Rattle.aeth_group.specs.Members.{has_unit, is_member}
 use Rattle.aeth_group.proofs.groups.Groups.member.Given as goal
 

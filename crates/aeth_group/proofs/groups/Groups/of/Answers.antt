@@ -1,13 +1,11 @@
 use Rattle.std.proofs.Common.{◌≡◌, ◌∙◌, List, length, map, ap, subst, sym, arith}
-use Rattle.std.specs.List.{range_with_len}
 use Rattle.std.proofs.lemmas.List.FromFn.{length-map-range_with_len}
-use Rattle.aeth_group.specs.AppGroups.{IsGroupsOf}
-use Rattle.aeth_group.specs.Members.{IsGroups, UseGroupData, use_group}
-use Rattle.aeth_group.specs.Rows.{AreRows}
-use Rattle.aeth_group.proofs.AppGroupsLemmas.{is_groups_of}
-use Rattle.aeth_group.proofs.GroupLemmas.{class_of-marked, firsts_below-marked}
-use Rattle.aeth_group.proofs.MakingLemmas.{groups_are, uses-more}
-use Rattle.aeth_group.proofs.MemberLemmas.{is_groups-groups_of}
+use Rattle.std.specs.List.{range_with_len}
+use Rattle.aeth_group.specs.{AppGroups.IsGroupsOf, Members.IsGroups, Members.UseGroupData}
+use Rattle.aeth_group.specs.{Members.use_group, Rows.AreRows}
+use Rattle.aeth_group.proofs.{AppGroupsLemmas.is_groups_of, GroupLemmas.class_of-marked}
+use Rattle.aeth_group.proofs.{GroupLemmas.firsts_below-marked, MakingLemmas.groups_are}
+use Rattle.aeth_group.proofs.{MakingLemmas.uses-more, MemberLemmas.is_groups-groups_of}
 use Rattle.aeth_group.proofs.groups.Groups.of.Goals as goal
 
 -- One more use case.

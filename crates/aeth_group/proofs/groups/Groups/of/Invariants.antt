@@ -1,5 +1,4 @@
-use Rattle.std.proofs.Common.{◌≡◌, map}
-use Rattle.std.specs.List.{range_with_len}
+use Rattle.std.{proofs.Common.◌≡◌, proofs.Common.map, specs.List.range_with_len}
 use Rattle.aeth_group.specs.Members.{use_group}
 use Rattle.aeth_group.proofs.groups.Groups.of.Given as goal
 

@@ -1,7 +1,6 @@
 use Rattle.std.proofs.Common.{◌≤◌, subst}
 use Rattle.aeth_app.specs.Limits.{max_uses}
-use Rattle.aeth_group.specs.Members.{GroupsData}
-use Rattle.aeth_group.proofs.UnitLemmas.{units-more}
+use Rattle.aeth_group.{specs.Members.GroupsData, proofs.UnitLemmas.units-more}
 use Rattle.aeth_group.proofs.groups.Groups.units.Goals as goal
 
 -- One more connection.

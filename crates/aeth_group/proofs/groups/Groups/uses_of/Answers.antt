@@ -1,5 +1,4 @@
-use Rattle.std.proofs.Common.{List, arith, sym, ap, length}
-use Rattle.std.proofs.lemmas.Bool.{ltb-false}
+use Rattle.std.proofs.Common.{List, arith, sym, ap, length, ltb-false}
 use Rattle.aeth_group.proofs.RowLemmas.{uses_of-beyond}
 use Rattle.aeth_group.proofs.groups.Groups.uses_of.Goals as goal
 

@@ -2,8 +2,7 @@ use Rattle.std.proofs.Common.{List, subst}
 use Rattle.aeth_components.specs.First.{IsFirst}
 use Rattle.aeth_schedule.specs.declared.windows.Window.{Window}
 use Rattle.aeth_stimuli.specs.Stimuli.{Offer}
-use Rattle.aeth_network.specs.Next.{HasOffer, HasWindow}
-use Rattle.aeth_network.proofs.Firsts.{first-either}
+use Rattle.aeth_network.{specs.Next.HasOffer, specs.Next.HasWindow, proofs.Firsts.first-either}
 use Rattle.aeth_network.proofs.given.Given.next.Goals as goal
 
 -- Either of the two.

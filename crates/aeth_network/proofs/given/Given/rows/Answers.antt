@@ -1,10 +1,7 @@
-use Rattle.std.proofs.Common.{◌∙◌, ◌+◌, ℕ, ap, subst}
-use Rattle.std.specs.Prelude.{slice_range}
+use Rattle.std.proofs.Common.{◌∙◌, ◌+◌, ℕ, ap, subst, slice_range}
 use Rattle.aeth_schedule.specs.declared.going.Going.{Going}
 use Rattle.aeth_stimuli.specs.Stimuli.{Offer, Take}
-use Rattle.aeth_network.specs.Behind.{passed}
-use Rattle.aeth_network.specs.Windows.{AreOver}
-use Rattle.aeth_network.proofs.MappedRows.{events-range}
+use Rattle.aeth_network.{specs.Behind.passed, specs.Windows.AreOver, proofs.MappedRows.events-range}
 use Rattle.aeth_network.proofs.given.Given.rows.Goals as goal
 
 -- The events are those of the cycle.

@@ -1,7 +1,5 @@
-use Rattle.std.proofs.Common.{◌<◌, ◌∙◌, ap, arith, subst, sym}
-use Rattle.std.specs.Prelude.{vec_capacity}
-use Rattle.aeth_running.specs.Network.{NetworkState, stepped}
-use Rattle.aeth_running.specs.Still.{IsStill}
+use Rattle.std.proofs.Common.{◌<◌, ◌∙◌, ap, arith, subst, sym, vec_capacity}
+use Rattle.aeth_running.specs.{Network.NetworkState, Network.stepped, Still.IsStill}
 use Rattle.aeth_network.specs.Cursors.{routing_with}
 use Rattle.aeth_network.proofs.Cycling.{can-bring}
 use Rattle.aeth_network.proofs.SeenNetworks.{Becomes, becomes-stepped, seen, seen_next}

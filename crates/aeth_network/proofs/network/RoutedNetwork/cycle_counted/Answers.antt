@@ -1,9 +1,7 @@
-use Rattle.std.proofs.Common.{subst}
-use Rattle.std.specs.Prelude.{vec_capacity}
+use Rattle.std.proofs.Common.{subst, vec_capacity}
 use Rattle.aeth_network.specs.Brought.{BringsWords}
-use Rattle.aeth_network.proofs.Playing.{loses-of, still-of}
-use Rattle.aeth_network.proofs.QuietPlaces.{brings-words}
-use Rattle.aeth_network.proofs.SeenNetworks.{in-order, seen}
+use Rattle.aeth_network.proofs.{Playing.loses-of, Playing.still-of, QuietPlaces.brings-words}
+use Rattle.aeth_network.proofs.{SeenNetworks.in-order, SeenNetworks.seen}
 use Rattle.aeth_network.proofs.network.RoutedNetwork.cycle_counted.Goals as goal
 
 -- Nothing but words comes before the quiet cycle.

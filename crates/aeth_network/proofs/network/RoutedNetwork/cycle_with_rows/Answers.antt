@@ -1,9 +1,7 @@
-use Rattle.std.proofs.Common.{◌≡◌, ◌<◌, ◌∙◌, ap, arith, length, subst, sym}
-use Rattle.std.specs.Prelude.{slice_range, vec_capacity}
-use Rattle.aeth_components.specs.Components.{ComponentsState}
-use Rattle.aeth_components.specs.Turns.{flits_on}
-use Rattle.aeth_running.specs.Network.{NetworkState, stepped}
-use Rattle.aeth_running.specs.Routing.{later_rows}
+use Rattle.std.proofs.Common.{◌≡◌, ◌<◌, ◌∙◌, ap, arith, length, subst, sym, slice_range}
+use Rattle.std.proofs.Common.{vec_capacity}
+use Rattle.aeth_components.specs.{Components.ComponentsState, Turns.flits_on}
+use Rattle.aeth_running.specs.{Network.NetworkState, Network.stepped, Routing.later_rows}
 use Rattle.aeth_network.specs.Routes.{routing_in}
 use Rattle.aeth_network.proofs.Cycling.{can-bring, events-doable, stepped-behind}
 use Rattle.aeth_network.proofs.Enterings.{later-takes, size-entered}

@@ -1,11 +1,9 @@
-use Rattle.std.proofs.Common.{◌≡◌, ◌<◌, ◌+◌, ◌∙◌, List, ap, arith, length, refl, subst, sym}
-use Rattle.std.specs.Prelude.{All, vec_capacity}
+use Rattle.std.proofs.Common.{◌≡◌, ◌<◌, ◌+◌, ◌∙◌, List, ap, arith, length, refl, subst, sym, All}
+use Rattle.std.proofs.Common.{vec_capacity}
 use Rattle.aeth_running.specs.Network.{NetworkState, stepped}
 use Rattle.aeth_stimuli.specs.Stimuli.{Offer}
-use Rattle.aeth_network.specs.Behind.{passed}
-use Rattle.aeth_network.specs.Brought.{BringsWords}
-use Rattle.aeth_network.specs.Fits.{AreFit}
-use Rattle.aeth_network.specs.declared.state.State.{State}
+use Rattle.aeth_network.specs.{Behind.passed, Brought.BringsWords, Fits.AreFit}
+use Rattle.aeth_network.specs.{declared.state.State.State}
 use Rattle.aeth_network.proofs.Cycling.{offers-now}
 use Rattle.aeth_network.proofs.QuietPlaces.{cursors-words}
 use Rattle.aeth_network.proofs.SeenNetworks.{Becomes, becomes-stepped, in-order, seen, seen_next}

@@ -1,12 +1,9 @@
 use Rattle.std.proofs.Common.{◌≡◌, ◌∙◌, ap, arith, length}
 use Rattle.aeth_schedule.specs.declared.going.Going.{Going}
 use Rattle.aeth_running.specs.Told.{told}
-use Rattle.aeth_network.specs.Cursors.{routing_with, stimuli_with}
-use Rattle.aeth_network.specs.Networks.{network_of}
-use Rattle.aeth_network.specs.Telling.{channels_by}
-use Rattle.aeth_network.proofs.Passed.{passed-few}
-use Rattle.aeth_network.proofs.Playing.{log-of}
-use Rattle.aeth_network.proofs.TellingLemmas.{told-by}
+use Rattle.aeth_network.specs.{Cursors.routing_with, Cursors.stimuli_with, Networks.network_of}
+use Rattle.aeth_network.specs.{Telling.channels_by}
+use Rattle.aeth_network.proofs.{Passed.passed-few, Playing.log-of, TellingLemmas.told-by}
 use Rattle.aeth_network.proofs.network.RoutedNetwork.log.Goals as goal
 
 -- No more sessions have gone than there are.

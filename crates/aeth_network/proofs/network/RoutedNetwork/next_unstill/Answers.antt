@@ -1,11 +1,8 @@
 use Rattle.std.proofs.Common.{◌≡◌, ◌∙◌, ap, arith, subst, sym}
-use Rattle.aeth_running.specs.Network.{NetworkState}
-use Rattle.aeth_running.specs.Quiet.{IsNextBusy}
+use Rattle.aeth_running.specs.{Network.NetworkState, Quiet.IsNextBusy}
 use Rattle.aeth_network.specs.Cursors.{AreCursors, routing_with, stimuli_with}
-use Rattle.aeth_network.proofs.NextBusy.{next-busy-is, now-busy}
-use Rattle.aeth_network.proofs.Playing.{cycles-of}
-use Rattle.aeth_network.proofs.SeenNetworks.{seen}
-use Rattle.aeth_network.proofs.WindowLemmas.{given-ascend}
+use Rattle.aeth_network.proofs.{NextBusy.next-busy-is, NextBusy.now-busy, Playing.cycles-of}
+use Rattle.aeth_network.proofs.{SeenNetworks.seen, WindowLemmas.given-ascend}
 use Rattle.aeth_network.proofs.network.RoutedNetwork.next_unstill.Goals as goal
 
 -- No more cycles are done than there are.

@@ -1,10 +1,9 @@
-use Rattle.std.proofs.Common.{◌≡◌, ◌≤◌, ◌<◌, ◌-◌, ◌∙◌, ap, drop, length, subst, sym}
-use Rattle.std.specs.Prelude.{All, vec_capacity}
+use Rattle.std.proofs.Common.{◌≡◌, ◌≤◌, ◌<◌, ◌-◌, ◌∙◌, ap, drop, length, subst, sym, All}
+use Rattle.std.proofs.Common.{vec_capacity}
 use Rattle.std.proofs.lemmas.List.Elements.{All-drop, All-take}
 use Rattle.aeth_running.specs.Network.{NetworkState, played}
 use Rattle.aeth_stimuli.specs.Stimuli.{Take}
-use Rattle.aeth_network.specs.Behind.{passed}
-use Rattle.aeth_network.specs.Cursors.{routing_with}
+use Rattle.aeth_network.specs.{Behind.passed, Cursors.routing_with}
 use Rattle.aeth_network.proofs.PullLemmas.{cycle_of}
 use Rattle.aeth_network.proofs.SeenNetworks.{Becomes, seen}
 use Rattle.aeth_network.proofs.Skipped.{MayRest, place-rises, rests-behind, rests-cursors}

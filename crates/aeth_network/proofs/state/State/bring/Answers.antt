@@ -4,8 +4,7 @@ use Rattle.aeth_trace.specs.Channels.{channel_number}
 use Rattle.aeth_components.specs.declared.lane.Lane.{Lane}
 use Rattle.aeth_schedule.specs.declared.going.Going.{Going}
 use Rattle.aeth_running.specs.Network.{outside_with}
-use Rattle.aeth_stimuli.specs.Loaded.{no_lane}
-use Rattle.aeth_stimuli.specs.Stimuli.{Offer, Take}
+use Rattle.aeth_stimuli.specs.{Loaded.no_lane, Stimuli.Offer, Stimuli.Take}
 use Rattle.aeth_network.proofs.LaneCounts.{lanes-accepted, lanes-gone, length-untils}
 use Rattle.aeth_network.proofs.state.State.bring.Goals as goal
 

@@ -1,10 +1,7 @@
-use Rattle.std.proofs.Common.{◌∙◌, ◌-◌, All, List, ap, drop, fold, subst, sym}
-use Rattle.std.specs.Prelude.{slice_range}
-use Rattle.std.proofs.lemmas.List.Elements.{All-drop, All-take}
-use Rattle.std.proofs.lemmas.List.Folds.{fold-map}
+use Rattle.std.proofs.Common.{◌∙◌, ◌-◌, All, List, ap, drop, fold, subst, sym, slice_range}
+use Rattle.std.proofs.lemmas.List.{Elements.All-drop, Elements.All-take, Folds.fold-map}
 use Rattle.aeth_base.proofs.Members.{All-from_map}
-use Rattle.aeth_router.specs.declared.part.Part.{Part}
-use Rattle.aeth_router.specs.declared.router_row.RouterRow.{RouterRow}
+use Rattle.aeth_router.specs.declared.{part.Part.Part, router_row.RouterRow.RouterRow}
 use Rattle.aeth_components.specs.Entering.{TakesRows}
 use Rattle.aeth_running.specs.Routing.{Entering, Routing, entered_with, later_rows}
 use Rattle.aeth_network.proofs.MappedRows.{range-map}

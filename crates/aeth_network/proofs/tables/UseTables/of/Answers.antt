@@ -2,8 +2,7 @@ use Rattle.std.proofs.Common.{◌<◌, ◌∙◌, All, List, ap, length, refl, s
 use Rattle.aeth_trace.specs.declared.switches.SwitchRow.{SwitchRow}
 use Rattle.aeth_accepted.specs.Inputs.{run_of}
 use Rattle.aeth_network.proofs.Enterings.{first-known, later-known, uses-scheduled}
-use Rattle.aeth_network.specs.Routes.{first_use}
-use Rattle.aeth_network.specs.declared.tables.EnteredUse.{EnteredUse}
+use Rattle.aeth_network.specs.{Routes.first_use, declared.tables.EnteredUse.EnteredUse}
 use Rattle.aeth_network.proofs.tables.UseTables.of.Goals as goal
 
 -- There are rows of each use case that is entered.

@@ -2,9 +2,8 @@ use Rattle.std.proofs.Common.{◌∙◌, ap, arith, subst, sym}
 use Rattle.std.specs.List.Sorted.{IsNonDecreasingBy}
 use Rattle.aeth_running.specs.Routing.{Entering, Routing, later_rows}
 use Rattle.aeth_network.proofs.MappedRows.{passed-mapped, rises-mapped}
-use Rattle.aeth_network.specs.Behind.{passed}
-use Rattle.aeth_network.specs.Routes.{entering_of, rows_in}
-use Rattle.aeth_network.specs.declared.tables.EnteredUse.{EnteredUse}
+use Rattle.aeth_network.specs.{Behind.passed, Routes.entering_of, Routes.rows_in}
+use Rattle.aeth_network.specs.{declared.tables.EnteredUse.EnteredUse}
 use Rattle.aeth_network.proofs.tables.UseTables.quiet_until.Goals as goal
 
 -- Use cases are entered as their rows are.

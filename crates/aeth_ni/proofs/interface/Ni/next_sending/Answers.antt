@@ -1,6 +1,5 @@
 use Rattle.std.proofs.Common.{◌≡◌, ◌<◌, ◌∙◌, ℕ, Option, ap, arith, length, subst, sym}
-use Rattle.aeth_ni.specs.Component.{emitted_by}
-use Rattle.aeth_ni.specs.Interface.{InterfaceState}
+use Rattle.aeth_ni.specs.{Component.emitted_by, Interface.InterfaceState}
 use Rattle.aeth_ni.proofs.RestingLemmas.{queue_at_cycle-round}
 use Rattle.aeth_ni.proofs.interface.Ni.next_sending.Goals as goal
 

@@ -1,8 +1,7 @@
 use Rattle.std.proofs.Common.{◌≡◌, ◌%◌, ◌∙◌, ap, length, None, refl, arith}
 use Rattle.std.proofs.lemmas.List.{get_or_default}
 use Rattle.aeth_clocked.proofs.WiresLemmas.{AreLinks-one, Drives-slice_set}
-use Rattle.aeth_ni.specs.Component.{queue_at_cycle, emitted_by}
-use Rattle.aeth_ni.specs.Interface.{InterfaceState}
+use Rattle.aeth_ni.specs.{Component.queue_at_cycle, Component.emitted_by, Interface.InterfaceState}
 use Rattle.aeth_ni.proofs.interface.NiClocked.drive.Goals as goal
 
 -- The leaving link is a link.

@@ -1,8 +1,6 @@
 use Rattle.std.proofs.Common.{◌≡◌, ◌∙◌, ap, length, None, sym}
-use Rattle.aeth_clocked.specs.Wires.{flit_on}
-use Rattle.aeth_clocked.proofs.WiresLemmas.{AreLinks-one}
-use Rattle.aeth_ni.specs.Interface.{InterfaceState}
-use Rattle.aeth_ni.proofs.RestingLemmas.{RestsDrive-interface}
+use Rattle.aeth_clocked.{specs.Wires.flit_on, proofs.WiresLemmas.AreLinks-one}
+use Rattle.aeth_ni.{specs.Interface.InterfaceState, proofs.RestingLemmas.RestsDrive-interface}
 use Rattle.aeth_ni.proofs.interface.NiClocked.rests_drive.Goals as goal
 
 -- The leaving link is a link.

@@ -1,13 +1,12 @@
 use Rattle.std.proofs.Common.{◌∙◌, List, sym, ap, arith}
 use Rattle.std.proofs.lemmas.Option.{slice_get_within}
-use Rattle.aeth_order.specs.declared.keys.UnitKeys.{UnitKeys}
-use Rattle.aeth_order.specs.Grid.{grid_place}
-use Rattle.aeth_order.specs.Units.{UnitsData, without_unit}
+use Rattle.aeth_order.specs.{declared.keys.UnitKeys.UnitKeys, Grid.grid_place, Units.UnitsData}
+use Rattle.aeth_order.specs.{Units.without_unit}
 use Rattle.aeth_order.proofs.GridLemmas.{units_data}
 use Rattle.aeth_order.proofs.DoneLemmas.{marks-done, marks-same, order-done}
-use Rattle.aeth_order.proofs.units.Units.done.Goals as goal
 use Rattle.aeth_order.proofs.units.Units.done.Goals.{else-unit-lt-MAX_USES-via-then-unit-lt-MAX_USES+else-place-len}
 use Rattle.aeth_order.proofs.units.Units.done.Goals.{else-unit-lt-MAX_USES-via-else-unit-lt-MAX_USES}
+use Rattle.aeth_order.proofs.units.Units.done.Goals as goal
 
 -- The unit waits no more.
 pub invariant_of-self : goal.invariant_of-self

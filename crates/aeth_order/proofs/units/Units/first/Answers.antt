@@ -1,6 +1,5 @@
 use Rattle.std.proofs.Common.{◌∙◌, sym, ap}
-use Rattle.aeth_order.specs.Order.{first_by, turn_order}
-use Rattle.aeth_order.specs.Units.{UnitsData}
+use Rattle.aeth_order.specs.{Order.first_by, Order.turn_order, Units.UnitsData}
 use Rattle.aeth_order.proofs.NextLemmas.{next-seated, next-waiting}
 use Rattle.aeth_order.proofs.units.Units.first.Goals as goal
 

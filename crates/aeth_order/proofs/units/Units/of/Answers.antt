@@ -1,10 +1,7 @@
 use Rattle.std.proofs.Common.{◌≡◌, ◌∙◌, Bool, List, length, sym, ap, subst}
-use Rattle.std.specs.List.{items_where_true}
-use Rattle.std.specs.List.Sorted.{IsPermutation}
-use Rattle.aeth_group.specs.Members.{GroupsData}
-use Rattle.aeth_group.proofs.MemberLemmas.{connections-groups_of}
-use Rattle.aeth_order.specs.declared.keys.UnitKeys.{UnitKeys}
-use Rattle.aeth_order.specs.Grid.{marks_of}
+use Rattle.std.specs.List.{items_where_true, Sorted.IsPermutation}
+use Rattle.aeth_group.{specs.Members.GroupsData, proofs.MemberLemmas.connections-groups_of}
+use Rattle.aeth_order.specs.{declared.keys.UnitKeys.UnitKeys, Grid.marks_of}
 use Rattle.aeth_order.proofs.GridLemmas.{units_data}
 use Rattle.aeth_order.proofs.StartLemmas.{grid-start, grid-units, order-start}
 use Rattle.aeth_order.proofs.units.Units.of.Goals as goal

@@ -1,7 +1,6 @@
 use Rattle.std.proofs.Common.{◌≢◌, ◌<◌, ◌+◌, ◌/◌, ◌%◌, ◌∙◌, ℕ, length, get_or, get_or-set_other}
 use Rattle.std.proofs.Common.{get_or-set_same, below_more, length-set, set, subst, sym, arith}
-use Rattle.aeth_paths.specs.Costs.{used_count}
-use Rattle.aeth_paths.proofs.CostLemmas.{are-costs}
+use Rattle.aeth_paths.{specs.Costs.used_count, proofs.CostLemmas.are-costs}
 use Rattle.aeth_paths.proofs.cost.Cost.new.Goals as goal
 
 -- One more answer is the function's.

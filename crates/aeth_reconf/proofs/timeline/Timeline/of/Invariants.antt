@@ -1,5 +1,4 @@
-use Rattle.std.proofs.Common.{◌≡◌, map}
-use Rattle.std.specs.List.{range_with_len}
+use Rattle.std.{proofs.Common.◌≡◌, proofs.Common.map, specs.List.range_with_len}
 use Rattle.aeth_report.specs.Sessions.{sessions_of}
 use Rattle.aeth_reconf.proofs.timeline.Timeline.of.Given as goal
 

@@ -3,8 +3,8 @@ use Rattle.aeth_clocked.specs.declared.flit.Flit.{Flit}
 use Rattle.aeth_router.specs.Onward.{AreContended}
 use Rattle.aeth_router.proofs.OnwardLemmas.{arrivals_of-mark, arrivals_of-put, within-first}
 use Rattle.aeth_router.proofs.ContendedLemmas.{AreContended-mark, AreContended-put, empty-alone}
-use Rattle.aeth_router.proofs.onward.Onward.add.Goals as goal
 use Rattle.aeth_router.proofs.onward.Onward.add.Goals.{After-is_empty}
+use Rattle.aeth_router.proofs.onward.Onward.add.Goals as goal
 
 -- The wire is one of those that are noted.
 pub is_empty-requires : goal.is_empty-requires

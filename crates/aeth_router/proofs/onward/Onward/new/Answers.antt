@@ -1,7 +1,6 @@
 use Rattle.std.proofs.Common.{◌∙◌, List, Option, ap}
 use Rattle.aeth_clocked.specs.declared.flit.Flit.{Flit}
-use Rattle.aeth_router.specs.Onward.{arrivals_of}
-use Rattle.aeth_router.proofs.OnwardLemmas.{arrivals_of-none}
+use Rattle.aeth_router.{specs.Onward.arrivals_of, proofs.OnwardLemmas.arrivals_of-none}
 use Rattle.aeth_router.proofs.onward.Onward.new.Goals as goal
 
 -- Nothing has come to any wire.

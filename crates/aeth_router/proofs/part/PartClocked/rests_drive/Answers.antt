@@ -1,5 +1,4 @@
-use Rattle.aeth_router.proofs.RestingLemmas.{drives-interface, drives-router}
-use Rattle.aeth_router.proofs.RestingLemmas.{drives-table-router}
+use Rattle.aeth_router.proofs.RestingLemmas.{drives-interface, drives-router, drives-table-router}
 use Rattle.aeth_router.proofs.part.PartClocked.rests_drive.Goals as goal
 
 -- The wires of an interface are wires.

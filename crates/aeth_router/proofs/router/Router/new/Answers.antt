@@ -1,6 +1,5 @@
 use Rattle.std.proofs.Common.{arith}
-use Rattle.aeth_chip.specs.declared.node.Node.TheVariants.{Router}
-use Rattle.aeth_chip.specs.Nodes.{begins_at, ends_at}
+use Rattle.aeth_chip.specs.{declared.node.Node.TheVariants.Router, Nodes.begins_at, Nodes.ends_at}
 use Rattle.aeth_router.proofs.LinkLemmas.{AreDistinctLinks-numbers_from, AreLinks-numbers_from}
 use Rattle.aeth_router.proofs.Steps.{empty-places}
 use Rattle.aeth_router.proofs.router.Router.new.Goals as goal

@@ -1,10 +1,8 @@
 use Rattle.std.proofs.Common.{◌≡◌, ◌<◌, ◌∙◌, ℕ, List, Some, ap, length, slice_get, subst, sym}
-use Rattle.aeth_router.specs.Ports.{toward}
-use Rattle.aeth_router.specs.Router.{AreDistinctLinks, RouterState, numbers_of}
-use Rattle.aeth_router.proofs.AddsLemmas.{Adds-sent_on}
-use Rattle.aeth_router.proofs.LinkLemmas.{is_among-at}
-use Rattle.aeth_router.proofs.PortLemmas.{toward-other, toward-same}
-use Rattle.aeth_router.proofs.Steps.{numbers_of-got}
+use Rattle.aeth_router.{specs.Ports.toward, specs.Router.AreDistinctLinks, specs.Router.RouterState}
+use Rattle.aeth_router.{specs.Router.numbers_of, proofs.AddsLemmas.Adds-sent_on}
+use Rattle.aeth_router.{proofs.LinkLemmas.is_among-at, proofs.PortLemmas.toward-other}
+use Rattle.aeth_router.{proofs.PortLemmas.toward-same, proofs.Steps.numbers_of-got}
 use Rattle.aeth_router.proofs.router.Router.pass.Goals as goal
 
 -- The link of the port is a link.

@@ -1,6 +1,5 @@
 use Rattle.std.proofs.Common.{◌≡◌, ℕ, List, length, ap, sym, subst, ◌∙◌}
-use Rattle.aeth_clocked.specs.Resting.{HasNoFlit}
-use Rattle.aeth_clocked.specs.Wires.{AreLinks}
+use Rattle.aeth_clocked.specs.{Resting.HasNoFlit, Wires.AreLinks}
 use Rattle.aeth_router.specs.Router.{RouterState, is_among, numbers_of}
 use Rattle.aeth_router.proofs.RestingLemmas.{RestsDrive-router}
 use Rattle.aeth_router.proofs.router.RouterClocked.rests_drive.Goals as goal

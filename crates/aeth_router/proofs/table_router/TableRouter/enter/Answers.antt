@@ -1,5 +1,4 @@
-use Rattle.std.proofs.Common.{◌∙◌, ap, rules, take}
-use Rattle.std.proofs.lemmas.List.{take_all}
+use Rattle.std.proofs.Common.{◌∙◌, ap, rules, take, take_all}
 use Rattle.aeth_router.specs.Rows.{with_table}
 use Rattle.aeth_router.proofs.RowLemmas.{row-fits, with_table-more}
 use Rattle.aeth_router.proofs.table_router.TableRouter.enter.Goals as goal

@@ -1,9 +1,8 @@
 use Rattle.std.proofs.Common.{◌≡◌, ◌∙◌, List, ap, filter, true}
 use Rattle.std.proofs.lemmas.List.Elements.{All-filter}
 use Rattle.aeth_base.specs.declared.ids.RouterId.{RouterId}
-use Rattle.aeth_router.specs.Rows.{IsRowFor, is_for, with_table}
-use Rattle.aeth_router.specs.TableRouter.{TableRouterState}
-use Rattle.aeth_router.specs.declared.router_row.RouterRow.{RouterRow}
+use Rattle.aeth_router.specs.{Rows.IsRowFor, Rows.is_for, Rows.with_table}
+use Rattle.aeth_router.specs.{TableRouter.TableRouterState, declared.router_row.RouterRow.RouterRow}
 use Rattle.aeth_router.proofs.RowOrder.{with_table-own}
 use Rattle.aeth_router.proofs.table_router.TableRouter.enter_ordered.Goals as goal
 

@@ -1,7 +1,6 @@
 use Rattle.std.proofs.Common.{◌≡◌, ◌≤◌, ◌<◌, ◌%◌, ◌∙◌, ℕ, ap, arith, length, subst, sym, true}
-use Rattle.aeth_router.specs.Ports.{hopped}
-use Rattle.aeth_router.specs.Single.{IsTableNoted, is_sent_by}
-use Rattle.aeth_router.specs.TableRouter.{TableRouterState}
+use Rattle.aeth_router.specs.{Ports.hopped, Single.IsTableNoted, Single.is_sent_by}
+use Rattle.aeth_router.specs.{TableRouter.TableRouterState}
 use Rattle.aeth_router.proofs.SingleLemmas.{Adds-from_Reaches, Reaches-sent, port_sends}
 use Rattle.aeth_router.proofs.SingleLemmas.{port_sends-other}
 use Rattle.aeth_router.proofs.TableLemmas.{is_port-from, port-link, port-link-below}

@@ -1,12 +1,12 @@
 use Rattle.std.proofs.Common.{◌<◌, ◌∙◌, ℕ, ap, arith, get_or, length, subst, sym}
 use Rattle.std.proofs.lemmas.Option.{slice_get-get_or}
-use Rattle.aeth_router.specs.Router.{AreDistinctLinks}
-use Rattle.aeth_router.specs.TableRouter.{TableRouterState}
+use Rattle.aeth_router.specs.{Router.AreDistinctLinks, TableRouter.TableRouterState}
 use Rattle.aeth_router.proofs.SingleLemmas.{Adds-from_HaveSent, HaveSent-more, Reaches-none}
 use Rattle.aeth_router.proofs.SingleLemmas.{Reaches-sent, port_sends}
 use Rattle.aeth_router.proofs.TableLemmas.{length-ports, port-link, port-link-below}
+use Rattle.aeth_router.proofs.table_router.TableRouter.send_all.Goals.{else-is_sent_by}
+use Rattle.aeth_router.proofs.table_router.TableRouter.send_all.Goals.{then-is_sent_by}
 use Rattle.aeth_router.proofs.table_router.TableRouter.send_all.Goals as goal
-use Rattle.aeth_router.proofs.table_router.TableRouter.send_all.Goals.{else-is_sent_by, then-is_sent_by}
 
 -- Each outgoing link is a link.
 pub add-requires : goal.add-requires

@@ -1,11 +1,10 @@
 use Rattle.std.proofs.Common.{◌≡◌, ◌∙◌, ℕ, Option, arith, ap, sym, subst}
 use Rattle.std.proofs.lemmas.Grind.{common_steps}
-use Rattle.aeth_router.specs.Router.{numbers_of}
-use Rattle.aeth_router.specs.Single.{IsAlone, IsTableNoted}
-use Rattle.aeth_router.specs.TableRouter.{TableRouterState, place_from}
+use Rattle.aeth_router.specs.{Router.numbers_of, Single.IsAlone, Single.IsTableNoted}
+use Rattle.aeth_router.specs.{TableRouter.TableRouterState, TableRouter.place_from}
 use Rattle.aeth_router.proofs.SingleLemmas.{IsTableNoted-with_entry}
-use Rattle.aeth_router.proofs.table_router.TableRouter.set.Goals as goal
 use Rattle.aeth_router.proofs.table_router.TableRouter.set.Goals.{else-self, then-self}
+use Rattle.aeth_router.proofs.table_router.TableRouter.set.Goals as goal
 
 -- What is noted stays right.
 pub invariant_of-self : goal.invariant_of-self

@@ -1,10 +1,9 @@
 use Rattle.std.proofs.Common.{◌∙◌, ◌≤◌, List, Option, length, ap, arith, subst, sym}
 use Rattle.aeth_base.specs.declared.ids.NiId.{NiId}
-use Rattle.aeth_seats.specs.First.{AreKnown, first_places, fixed_count}
-use Rattle.aeth_app.specs.Limits.{seats_per_ni}
-use Rattle.aeth_seats.specs.Seats.{IsSeats}
-use Rattle.aeth_seats.specs.Table.{TableData}
+use Rattle.aeth_seats.specs.{First.AreKnown, First.first_places, First.fixed_count, Seats.IsSeats}
+use Rattle.aeth_seats.specs.{Table.TableData}
 use Rattle.aeth_seats.proofs.FirstLemmas.{few-fixed, known-fixed, seats-first}
+use Rattle.aeth_app.specs.Limits.{seats_per_ni}
 use Rattle.aeth_seats.proofs.seats.Seats.new.Goals as goal
 
 -- There are as many as cores of the application.

@@ -1,7 +1,5 @@
 use Rattle.std.proofs.Common.{◌≡◌, ◌<◌, None, length, subst, sym}
-use Rattle.aeth_seats.specs.Places.{seat_of}
-use Rattle.aeth_seats.specs.Seats.{IsSeats, SeatsData}
-use Rattle.aeth_seats.specs.Table.{TableData}
+use Rattle.aeth_seats.specs.{Places.seat_of, Seats.IsSeats, Seats.SeatsData, Table.TableData}
 use Rattle.aeth_seats.proofs.SeatLemmas.{seats-with_core}
 use Rattle.aeth_seats.proofs.seats.Seats.place.Goals as goal
 

@@ -1,5 +1,4 @@
-use Rattle.std.proofs.Common.{◌∙◌, ◌<◌, sym, arith, subst}
-use Rattle.std.specs.Prelude.{IfSome}
+use Rattle.std.proofs.Common.{◌∙◌, ◌<◌, sym, arith, subst, IfSome}
 use Rattle.aeth_app.specs.Limits.{seats_per_ni}
 use Rattle.aeth_seats.specs.Places.{Place}
 use Rattle.aeth_seats.proofs.seats.Seats.queue.Goals as goal

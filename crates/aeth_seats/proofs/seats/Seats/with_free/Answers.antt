@@ -1,9 +1,8 @@
 use Rattle.std.proofs.Common.{◌≡◌, ◌∙◌, ◌++◌, ◌∷◌, [], Bool, ℕ, sym, ap, arith}
-use Rattle.aeth_seats.specs.Places.{has_free}
-use Rattle.aeth_seats.specs.Seats.{SeatsData, interfaces}
+use Rattle.aeth_seats.specs.{Places.has_free, Seats.SeatsData, Seats.interfaces}
 use Rattle.aeth_seats.proofs.SeatLemmas.{interfaces-fails, interfaces-passes}
-use Rattle.aeth_seats.proofs.seats.Seats.with_free.Goals as goal
 use Rattle.aeth_seats.proofs.seats.Seats.with_free.Goals.{then-has_free+in_ok-push, else-has_free}
+use Rattle.aeth_seats.proofs.seats.Seats.with_free.Goals as goal
 
 -- One more interface.
 pub loop-ni-preserved : goal.loop-ni-preserved

@@ -1,6 +1,5 @@
 use Rattle.std.proofs.Common.{◌≡◌}
-use Rattle.aeth_seats.specs.Places.{has_free}
-use Rattle.aeth_seats.specs.Seats.{interfaces}
+use Rattle.aeth_seats.specs.{Places.has_free, Seats.interfaces}
 use Rattle.aeth_seats.proofs.seats.Seats.with_free.Given as goal
 
 -- The interfaces so far.

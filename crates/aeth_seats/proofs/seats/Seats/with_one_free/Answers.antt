@@ -1,10 +1,9 @@
-use Rattle.std.proofs.Common.{◌≡◌, ◌∙◌, ◌++◌, ◌∷◌, [], Bool, ℕ, sym, ap, arith}
-use Rattle.std.proofs.lemmas.Bool.{eq-eqb, ne_eqb}
-use Rattle.aeth_seats.specs.Seats.{is_crowded}
-use Rattle.aeth_seats.specs.Seats.{SeatsData, interfaces}
+use Rattle.std.proofs.Common.{◌≡◌, ◌∙◌, ◌++◌, ◌∷◌, [], Bool, ℕ, sym, ap, arith, eq-eqb, ne_eqb}
+use Rattle.aeth_seats.specs.Seats.{is_crowded, SeatsData, interfaces}
 use Rattle.aeth_seats.proofs.SeatLemmas.{interfaces-fails, interfaces-passes}
+use Rattle.aeth_seats.proofs.seats.Seats.with_one_free.Goals.{then-free_count-eq1+in_ok-push}
+use Rattle.aeth_seats.proofs.seats.Seats.with_one_free.Goals.{else-free_count-eq1}
 use Rattle.aeth_seats.proofs.seats.Seats.with_one_free.Goals as goal
-use Rattle.aeth_seats.proofs.seats.Seats.with_one_free.Goals.{then-free_count-eq1+in_ok-push, else-free_count-eq1}
 
 -- One more interface.
 pub loop-ni-preserved : goal.loop-ni-preserved

@@ -1,7 +1,6 @@
 use Rattle.std.proofs.Common.{◌∙◌, None, Option, length, ap, arith}
 use Rattle.std.proofs.lemmas.List.{length-replicate}
-use Rattle.aeth_seats.specs.Places.{Place}
-use Rattle.aeth_seats.proofs.TableLemmas.{table-none}
+use Rattle.aeth_seats.{specs.Places.Place, proofs.TableLemmas.table-none}
 use Rattle.aeth_seats.proofs.table.Table.new.Goals as goal
 
 -- No seat is taken.

@@ -1,7 +1,5 @@
-use Rattle.std.proofs.Common.{◌≡◌, ◌<◌, None, Some, true, length, set, sym}
-use Rattle.std.proofs.Common.{subst, arith}
-use Rattle.aeth_seats.specs.Places.{seat_of}
-use Rattle.aeth_seats.specs.Table.{IsTakenTable, TableData}
+use Rattle.std.proofs.Common.{◌≡◌, ◌<◌, None, Some, true, length, set, sym, subst, arith}
+use Rattle.aeth_seats.specs.{Places.seat_of, Table.IsTakenTable, Table.TableData}
 use Rattle.aeth_seats.proofs.SeatLemmas.{lowest-free}
 use Rattle.aeth_seats.proofs.TableLemmas.{entry_within, few-set, table-placed}
 use Rattle.aeth_seats.proofs.table.Table.place.Goals as goal

@@ -1,8 +1,6 @@
 use Rattle.std.proofs.Common.{◌≡◌, ◌∙◌, ◌<◌, ◌-◌, ◌+◌, ap, arith, take, drop, sym, subst}
 use Rattle.aeth_app.specs.Limits.{seats_per_ni}
-use Rattle.aeth_seats.specs.Places.{taken_seats}
-use Rattle.aeth_seats.specs.Table.{TableData}
-use Rattle.aeth_seats.proofs.TableLemmas.{row_is}
+use Rattle.aeth_seats.{specs.Places.taken_seats, specs.Table.TableData, proofs.TableLemmas.row_is}
 use Rattle.aeth_seats.proofs.table.Table.row.Goals as goal
 
 -- The entries of the interface.

@@ -1,7 +1,5 @@
-use Rattle.std.proofs.Common.{◌≡◌, ◌∙◌, ◌<◌, None, Some, false, length, set, sym, ap, subst}
-use Rattle.std.specs.Prelude.{IfSome}
-use Rattle.aeth_seats.specs.Places.{seat_of}
-use Rattle.aeth_seats.specs.Table.{IsHeldAlone, IsTakenTable, TableData}
+use Rattle.std.proofs.Common.{◌≡◌, ◌∙◌, ◌<◌, None, Some, false, length, set, sym, ap, subst, IfSome}
+use Rattle.aeth_seats.specs.{Places.seat_of, Table.IsHeldAlone, Table.IsTakenTable, Table.TableData}
 use Rattle.aeth_seats.proofs.TakenLemmas.{taken_back-none}
 use Rattle.aeth_seats.proofs.TableLemmas.{few-set, table-taken_back}
 use Rattle.aeth_seats.proofs.table.Table.take_back.Goals as goal

@@ -1,5 +1,4 @@
-use Rattle.std.proofs.Common.{◌≤◌, arith}
-use Rattle.std.proofs.lemmas.List.Elements.{All-replicate}
+use Rattle.std.proofs.{Common.◌≤◌, Common.arith, lemmas.List.Elements.All-replicate}
 use Rattle.aeth_base.specs.Limits.{max_path_delay}
 use Rattle.aeth_server.specs.Limits.{max_session_words}
 use Rattle.aeth_server.proofs.private_server.Alone.new.Goals as goal

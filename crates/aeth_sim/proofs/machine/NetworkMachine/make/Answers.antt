@@ -1,11 +1,10 @@
 use Rattle.std.proofs.Common.{◌≡◌, ◌∙◌, ◌-◌, ◌<◌, length}
-use Rattle.aeth_running.proofs.RouterTables.{headers-route}
 use Rattle.std.proofs.lemmas.Result.{IfOk-weaker}
+use Rattle.aeth_running.proofs.RouterTables.{headers-route}
+use Rattle.aeth_running.specs.{Network.NetworkState, Network.first_network, Network.played}
+use Rattle.aeth_running.specs.{Routing.ByHeaders, Told.told}
 use Rattle.aeth_accepted.specs.Inputs.{Inputs, run_of}
 use Rattle.aeth_report.specs.RunLog.{log_of}
-use Rattle.aeth_running.specs.Network.{NetworkState, first_network, played}
-use Rattle.aeth_running.specs.Routing.{ByHeaders}
-use Rattle.aeth_running.specs.Told.{told}
 use Rattle.aeth_network.proofs.Playing.{first-count, first-left, first-plays}
 use Rattle.aeth_sim.proofs.machine.NetworkMachine.make.Goals as goal
 

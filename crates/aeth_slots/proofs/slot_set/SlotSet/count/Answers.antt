@@ -1,5 +1,4 @@
-use Rattle.aeth_slots.proofs.Masks.{view-set}
-use Rattle.aeth_slots.proofs.Counts.{view-count}
+use Rattle.aeth_slots.proofs.{Masks.view-set, Counts.view-count}
 use Rattle.aeth_slots.proofs.slot_set.SlotSet.count.Goals as goal
 
 -- The ones are as many as their list is long.

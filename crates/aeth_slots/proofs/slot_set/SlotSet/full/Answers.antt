@@ -1,5 +1,4 @@
-use Rattle.aeth_slots.proofs.Masks.{mask_width}
-use Rattle.aeth_slots.proofs.MaskSets.{full-mask, view-full}
+use Rattle.aeth_slots.proofs.{Masks.mask_width, MaskSets.full-mask, MaskSets.view-full}
 use Rattle.aeth_slots.proofs.slot_set.SlotSet.full.Goals as goal
 
 -- All ones below the size.

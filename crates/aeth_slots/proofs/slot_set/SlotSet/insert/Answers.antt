@@ -1,7 +1,6 @@
 use Rattle.std.proofs.Common.{arith, ap, ◌∙◌, ◌≡◌}
-use Rattle.aeth_slots.specs.SlotSet.{Slots}
-use Rattle.aeth_slots.proofs.Ascending.{with_slot-last}
-use Rattle.aeth_slots.proofs.Masks.{mask_width, view-insert, insert-mask}
+use Rattle.aeth_slots.{specs.SlotSet.Slots, proofs.Ascending.with_slot-last}
+use Rattle.aeth_slots.{proofs.Masks.mask_width, proofs.Masks.view-insert, proofs.Masks.insert-mask}
 use Rattle.aeth_slots.proofs.slot_set.SlotSet.insert.Goals as goal
 
 -- The slot is below the size.

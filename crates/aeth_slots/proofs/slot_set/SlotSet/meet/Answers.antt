@@ -1,6 +1,5 @@
 use Rattle.std.proofs.Common.{◌≡◌, ap, sym, ◌∙◌, subst, ℕ}
-use Rattle.aeth_slots.specs.SlotSet.{Slots}
-use Rattle.aeth_slots.proofs.Masks.{IsView, view-common}
+use Rattle.aeth_slots.{specs.SlotSet.Slots, proofs.Masks.IsView, proofs.Masks.view-common}
 use Rattle.aeth_slots.proofs.slot_set.SlotSet.meet.Goals as goal
 
 -- Both masks are of one size.

@@ -1,5 +1,4 @@
-use Rattle.aeth_slots.proofs.Masks.{mask_width}
-use Rattle.aeth_slots.proofs.Rotation.{turned-mask, view-rotated}
+use Rattle.aeth_slots.proofs.{Masks.mask_width, Rotation.turned-mask, Rotation.view-rotated}
 use Rattle.aeth_slots.proofs.slot_set.SlotSet.rotate.Goals as goal
 
 -- The parts are cut to the table.

@@ -1,7 +1,6 @@
 use Rattle.std.proofs.Common.{refl, arith, ap}
 use Rattle.aeth_slots.specs.SlotSet.{Slots}
-use Rattle.aeth_slots.proofs.Masks.{mask_width}
-use Rattle.aeth_slots.proofs.Lookups.{no_slot, first_slot_found}
+use Rattle.aeth_slots.proofs.{Masks.mask_width, Lookups.no_slot, Lookups.first_slot_found}
 use Rattle.aeth_slots.proofs.slot_set.SlotSet.take_first.Goals as goal
 
 -- The mask 0 has no slot.

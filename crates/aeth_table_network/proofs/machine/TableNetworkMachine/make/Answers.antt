@@ -3,8 +3,8 @@ use Rattle.std.proofs.lemmas.Result.{IfOk-weaker}
 use Rattle.aeth_accepted.specs.Inputs.{Inputs, run_of}
 use Rattle.aeth_report.specs.RunLog.{log_of}
 use Rattle.aeth_running.specs.Network.{NetworkState, first_network, played}
-use Rattle.aeth_table_network.specs.Tables.{tables_of}
 use Rattle.aeth_running.specs.Told.{told}
+use Rattle.aeth_table_network.specs.Tables.{tables_of}
 use Rattle.aeth_network.proofs.Playing.{first-count, first-left, first-plays}
 use Rattle.aeth_table_network.proofs.machine.TableNetworkMachine.make.Goals as goal
 

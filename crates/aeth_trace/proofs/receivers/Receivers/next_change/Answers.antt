@@ -1,7 +1,6 @@
 use Rattle.std.proofs.Common.{◌≤◌, length, arith}
-use Rattle.aeth_trace.specs.Channels.{channel_number, list_at}
-use Rattle.aeth_trace.specs.Receivers.{pulls_on}
-use Rattle.aeth_trace.specs.declared.receivers.PullRow.{PullRow}
+use Rattle.aeth_trace.specs.{Channels.channel_number, Channels.list_at, Receivers.pulls_on}
+use Rattle.aeth_trace.specs.{declared.receivers.PullRow.PullRow}
 use Rattle.aeth_trace.proofs.IndexLemmas.{numbers_length}
 use Rattle.aeth_trace.proofs.OrderLemmas.{until_few}
 use Rattle.aeth_trace.proofs.PullLemmas.{change-last, change-later, change-steady}

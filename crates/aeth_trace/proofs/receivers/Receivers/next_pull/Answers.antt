@@ -1,8 +1,6 @@
 use Rattle.std.proofs.Common.{◌∙◌}
-use Rattle.aeth_trace.specs.Receivers.{pulls_on}
-use Rattle.aeth_trace.specs.declared.receivers.PullRow.{PullRow}
-use Rattle.aeth_trace.proofs.OrderLemmas.{until_few}
-use Rattle.aeth_trace.proofs.PullLemmas.{pull_of-first}
+use Rattle.aeth_trace.specs.{Receivers.pulls_on, declared.receivers.PullRow.PullRow}
+use Rattle.aeth_trace.proofs.{OrderLemmas.until_few, PullLemmas.pull_of-first}
 use Rattle.aeth_trace.proofs.receivers.Receivers.next_pull.Goals as goal
 
 -- There are so many rows.

@@ -1,6 +1,5 @@
 use Rattle.std.proofs.Common.{◌≡◌, ◌+◌, ◌-◌, arith, sym}
-use Rattle.aeth_trace.specs.Receivers.{pulls_on}
-use Rattle.aeth_trace.proofs.PullLemmas.{pull_of-last}
+use Rattle.aeth_trace.{specs.Receivers.pulls_on, proofs.PullLemmas.pull_of-last}
 use Rattle.aeth_trace.proofs.receivers.Receivers.pull_of.Goals as goal
 
 -- The row before the place is the last of so many.

@@ -2,8 +2,7 @@ use Rattle.std.proofs.Common.{◌≡◌, ℕ, List, None, length, replicate, ap,
 use Rattle.aeth_clocked.specs.Wires.{AreLinks, Drives}
 use Rattle.aeth_router.specs.Router.{is_among, numbers_of}
 use Rattle.aeth_router.specs.TableRouter.{TableRouterState, table_emit}
-use Rattle.aeth_router.proofs.IdleLemmas.{Drives-silent}
-use Rattle.aeth_router.proofs.TableLemmas.{table_emit-idle}
+use Rattle.aeth_router.proofs.{IdleLemmas.Drives-silent, TableLemmas.table_emit-idle}
 use Rattle.aeth_router.proofs.table_router.driving.TableRouterClocked.drive.Goals as goal
 
 -- The outgoing links are links.

@@ -1,8 +1,6 @@
 use Rattle.std.proofs.Common.{◌≡◌, ℕ, List, length, ap, sym, subst, ◌∙◌}
-use Rattle.aeth_clocked.specs.Resting.{HasNoFlit}
-use Rattle.aeth_clocked.specs.Wires.{AreLinks}
-use Rattle.aeth_router.specs.Router.{is_among, numbers_of}
-use Rattle.aeth_router.specs.TableRouter.{TableRouterState}
+use Rattle.aeth_clocked.specs.{Resting.HasNoFlit, Wires.AreLinks}
+use Rattle.aeth_router.specs.{Router.is_among, Router.numbers_of, TableRouter.TableRouterState}
 use Rattle.aeth_router.proofs.RestingLemmas.{RestsLatch-table}
 use Rattle.aeth_router.proofs.table_router.driving.TableRouterClocked.rests_latch.Goals as goal
 
