@@ -4,7 +4,7 @@
 # them there: side by side, as many as there are processors and memory. It keeps each crate as soon as it is proved, for
 # all checkouts on this machine, and takes over what it kept before. So a build that was ended goes on where it was, and
 # what a gate or another checkout proved of the same sources isn't proved again. Nearly all crates stand on a few low ones,
-# which stand on each other. These are proved ahead, each in a run of its own, which has two processors for it.
+# which stand on each other. These are proved ahead in a run that has no others, and so two processors for each.
 #
 # What runs afterwards is a copy, `out/aeth`. Beside it stand git's index and a list of the sources that it was built
 # from, and the prover's text where the build failed. The last few programs are kept in the user's cache too, each by the
@@ -56,9 +56,9 @@ weigh() {
     done
 }
 
-# The low crates that are proved ahead, a line each with those that they stand on: of the heaviest chain of crates that wait
-# for each other those below which, with themselves, there is at most a third of all. Crates of a few KB are proved as fast
-# without a run of their own.
+# The low crates that are proved ahead, with those that they stand on: of the heaviest chain of crates that wait for each
+# other those below which, with themselves, there is at most a third of all. Crates of a few KB are proved as fast in the
+# run of all.
 low_crates() {
     awk -v weights="$out/weights.$$" '
         BEGIN { while ((getline line < weights) > 0) { split(line, of, " "); weight[of[1]] = of[2]; all += of[2] } }
@@ -67,30 +67,27 @@ low_crates() {
               if (chain[list[i]] > most) { most = chain[list[i]]; before[name] = list[i] }
               below[name] = below[name] " " below[list[i]] " " list[i]
           }
-          chain[name] = most + weight[name]; last = name }
+          chain[name] = most + weight[name]; last = name; order[NR] = name }
         END { for (name = last; name != ""; name = before[name]) {
-            count = split(below[name] " " name, list, " "); split("", seen); sum = 0; line = ""
-            for (i = 1; i <= count; i++) if (!(list[i] in seen)) { seen[list[i]]; sum += weight[list[i]]; line = line " " list[i] }
-            if (3 * sum <= all && weight[name] > 10000) lines = line "\n" lines
-        } printf "%s", lines }
+            count = split(below[name] " " name, list, " "); split("", seen); sum = 0
+            for (i = 1; i <= count; i++) if (!(list[i] in seen)) { seen[list[i]]; sum += weight[list[i]] }
+            if (3 * sum <= all && weight[name] > 10000) for (each in seen) low[each]
+        } for (i = 1; i <= NR; i++) if (order[i] in low) print order[i] }
     ' "$room/all/crates.txt"
 }
 
-# Proves these crates one after the other, each in a folder that has no others but those below it.
+# Proves these crates in a folder that has no others. `rt ci` gives a crate two processors where no other waits for one,
+# and goes on at once to the next, before the run of all sees that it is proved.
 prove_low() {
     run=
     trap 'kill $run 2>/dev/null; exit' TERM
-    low_crates >"$room/low/chain"
-    while read -r crates; do
-        for crate in $crates; do
-            if [ -d "$room/low/crates/$crate" ]; then continue; fi
-            cp -R "$room/all/crates/$crate" "$room/low/crates/$crate" &&
-                grep "^ *$crate *\( staticlib *\)\{0,1\}:" "$room/all/crates.txt" >>"$room/low/crates.txt" || return
-        done
-        (cd "$room/low" && exec rt ci) </dev/null >/dev/null 2>&1 &
-        run=$!
-        wait $run || return
+    while read -r crate; do
+        cp -R "$room/all/crates/$crate" "$room/low/crates/$crate" &&
+            grep "^ *$crate *\( staticlib *\)\{0,1\}:" "$room/all/crates.txt" >>"$room/low/crates.txt" || return
     done <"$room/low/chain"
+    (cd "$room/low" && exec rt ci) </dev/null >/dev/null 2>&1 &
+    run=$!
+    wait $run
 }
 
 # Whether there are processors to spare while low crates are proved, and memory for two runs.
@@ -240,9 +237,11 @@ build() {
     trap 'stopped INT' INT
     trap 'stopped TERM' TERM
     trap 'stopped HUP' HUP
-    if has_room; then
+    low_crates >"$room/low/chain"
+    if [ -s "$room/low/chain" ] && has_room; then
         prove_low &
         ahead=$!
+        sleep 2 # so that the low crates are begun there
     fi
     ended=0
     (cd "$room/all" && exec rt ci) </dev/null >"$log" 2>&1 || ended=$?
