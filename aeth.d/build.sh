@@ -3,8 +3,8 @@
 # The crates that the program stands on are copied to a folder of their own, without their wrong bodies, and `rt ci` proves
 # them there: side by side, as many as there are processors and memory. It keeps each crate as soon as it is proved, for
 # all checkouts on this machine, and takes over what it kept before. So a build that was ended goes on where it was, and
-# what a gate or another checkout proved of the same sources isn't proved again. Nearly all crates stand on a few low ones,
-# which stand on each other. These are proved ahead in a run that has no others, and so two processors for each.
+# what a gate or another checkout proved of the same sources isn't proved again. Most crates stand on a few low ones, which
+# stand on each other. These are proved ahead in a run that has no others, and so two processors for each.
 #
 # What runs afterwards is a copy, `out/aeth`. Beside it stand git's index and a list of the sources that it was built
 # from, and the prover's text where the build failed. The last few programs are kept in the user's cache too, each by the
@@ -56,23 +56,17 @@ weigh() {
     done
 }
 
-# The low crates that are proved ahead, with those that they stand on: of the heaviest chain of crates that wait for each
-# other those below which, with themselves, there is at most a third of all. Crates of a few KB are proved as fast in the
-# run of all.
+# The low crates that are proved ahead: those on which at least half of all stands, by the size of the sources. Of a few KB
+# there are none.
 low_crates() {
     awk -v weights="$out/weights.$$" '
         BEGIN { while ((getline line < weights) > 0) { split(line, of, " "); weight[of[1]] = of[2]; all += of[2] } }
-        { split($0, parts, ":"); split(parts[1], words, " "); name = words[1]; count = split(parts[2], list, " "); most = 0
-          for (i = 1; i <= count; i++) if (list[i] in weight) {
-              if (chain[list[i]] > most) { most = chain[list[i]]; before[name] = list[i] }
-              below[name] = below[name] " " below[list[i]] " " list[i]
-          }
-          chain[name] = most + weight[name]; last = name; order[NR] = name }
-        END { for (name = last; name != ""; name = before[name]) {
-            count = split(below[name] " " name, list, " "); split("", seen); sum = 0
-            for (i = 1; i <= count; i++) if (!(list[i] in seen)) { seen[list[i]]; sum += weight[list[i]] }
-            if (3 * sum <= all && weight[name] > 10000) for (each in seen) low[each]
-        } for (i = 1; i <= NR; i++) if (order[i] in low) print order[i] }
+        { split($0, parts, ":"); split(parts[1], words, " "); name = order[NR] = words[1]
+          count = split(parts[2], list, " ")
+          for (i = 1; i <= count; i++) if (list[i] in weight) below[name] = below[name] " " below[list[i]] " " list[i]
+          count = split(below[name], list, " "); split("", seen)
+          for (i = 1; i <= count; i++) if (!(list[i] in seen)) { seen[list[i]]; above[list[i]] += weight[name] } }
+        END { if (all > 50000) for (i = 1; i <= NR; i++) if (2 * above[order[i]] >= all) print order[i] }
     ' "$room/all/crates.txt"
 }
 
