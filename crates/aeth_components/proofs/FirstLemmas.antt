@@ -14,8 +14,9 @@ use Rattle.aeth_router.specs.{Onward.Nothing, Passing.forwarded, Passing.has_tab
 use Rattle.aeth_router.specs.{declared.part.Part.Part}
 use Rattle.aeth_components.specs.{Components.part_count, Ends.AreEnds, Ends.AreEndsOf}
 use Rattle.aeth_components.specs.{Ends.is_interface, Frames.frame_of, Making.new_parts}
-use Rattle.aeth_components.specs.{Passing.way_of, Ready.AreReady, Turns.flits_on}
-use Rattle.aeth_components.specs.{declared.ends.Ends.Ends, declared.making.RouterKind.RouterKind}
+use Rattle.aeth_components.specs.{Passing.AreForwarded, Passing.way_of, Ready.AreReady}
+use Rattle.aeth_components.specs.{Turns.flits_on, declared.ends.Ends.Ends}
+use Rattle.aeth_components.specs.{declared.making.RouterKind.RouterKind}
 use Rattle.aeth_components.specs.{declared.making.RouterKind.TheVariants.ByHeader}
 use Rattle.aeth_components.specs.{declared.turns.Turns.Turns}
 use Rattle.aeth_components.proofs.EndLemmas.{IsAtEnds-receivers, IsAtEnds-senders}
@@ -105,13 +106,15 @@ forwarded-none (Some i) parts wires out wire empty =
 pub AreReady-none : (parts : List Part) (count : ℕ) (turns : Turns)
     → AreEnds (map frame_of parts) count turns.ends → turns.flits ≡ 0
     → turns.onward ≡ replicate count Nothing
+    → AreForwarded (map way_of parts) turns.forwarding.items
     → (turns.has_tables ≡ false → All (λ way. way.by_table ≡ false) (map way_of parts))
     → AreReady (map frame_of parts) (map way_of parts) (replicate count None) turns
-AreReady-none parts count turns ends flits onward tables =
+AreReady-none parts count turns ends flits onward noted tables =
     let empty = flit_on-replicate count in
     let size = length-replicate {A = Option Flit} count None in
     record {
       ends = rw size ends;
+      noted = noted;
       flits = (
           let none : flits_on (replicate count None) ≡ count * 0 =
           sum_by-replicate (λ (flit : Option Flit). cond (is_some flit) 1 0) count None in
@@ -129,10 +132,11 @@ module _ (chip : ChipData) (is_chip : IsChip chip) (kind : RouterKind) (rooms : 
   -- So they are before the first cycle.
   pub AreReady-new : (turns : Turns) → AreEndsOf chip turns.ends → turns.flits ≡ 0
       → turns.onward ≡ replicate (wires_of chip.links) Nothing
+      → AreForwarded (map way_of (new_parts chip kind rooms)) turns.forwarding.items
       → (turns.has_tables ≡ false → kind ≡ ByHeader)
       → AreReady (map frame_of (new_parts chip kind rooms)) (map way_of (new_parts chip kind rooms))
       (replicate (wires_of chip.links) None) turns
-  AreReady-new turns are flits onward by_header =
+  AreReady-new turns are flits onward noted by_header =
       AreReady-none (new_parts chip kind rooms) (wires_of chip.links) turns
       (rw (frames-kind chip kind rooms) (AreEnds-new chip is_chip rooms turns.ends are)) flits onward
-      (λ none. rw (by_header none) (ways-new chip rooms))
+      noted (λ none. rw (by_header none) (ways-new chip rooms))

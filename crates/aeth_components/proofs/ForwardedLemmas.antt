@@ -1,18 +1,25 @@
 -- What has been passed on of the wires so far, of the flits that go on alike in every cycle.
 use Rattle.std.proofs.Common.{ℕ, suc, ◌≡◌, ◌<◌, ◌≤◌, ◌+◌, refl, sym, ◌∙◌, ap, arith, subst, List}
-use Rattle.std.proofs.Common.{Option, Some, None, length, map, true, replicate}
+use Rattle.std.proofs.Common.{Option, Some, None, IsSome, inl, inr, length, map, true, replicate}
+use Rattle.std.proofs.Common.{slice_get}
+use Rattle.std.proofs.lemmas.Bool.{cases_Bool}
 use Rattle.aeth_base.proofs.Lists.{map-at}
 use Rattle.aeth_clocked.specs.{Wires.flit_on, declared.flit.Flit.Flit}
 use Rattle.aeth_router.proofs.OnwardLemmas.{CameFrom-next, CameFrom-skip, arrival_at-none}
+use Rattle.aeth_router.specs.Forwarding.{sent_by}
 use Rattle.aeth_router.specs.Onward.{Adds, Arrival, CameFrom, Nothing, arrival_at, arrived}
+use Rattle.aeth_router.specs.Part.{outputs_of}
 use Rattle.aeth_router.specs.Passing.{forwarded}
+use Rattle.aeth_router.specs.declared.forwarding.Forwarding.{Forwarding}
 use Rattle.aeth_router.specs.declared.part.Part.{Part}
 use Rattle.aeth_router.specs.declared.part.Part.TheVariants.{Interface, Router, Stage, TableRouter}
 use Rattle.aeth_components.proofs.LandedLemmas.{Lands, receiver-at}
 use Rattle.aeth_components.proofs.PassedLemmas.{receiver}
-use Rattle.aeth_components.proofs.WayLemmas.{forwarded-at, forwarded-empty}
+use Rattle.aeth_components.proofs.OwnLemmas.{output-below}
+use Rattle.aeth_components.proofs.WayLemmas.{forwarded-at, forwarded-empty, forwarded-output}
 use Rattle.aeth_components.specs.{Ends.AreEnds, Ends.is_interface, Frames.IsWired, Frames.frame_of}
-use Rattle.aeth_components.specs.{Passing.forwarded_from, Passing.way_of, declared.ends.Ends.Ends}
+use Rattle.aeth_components.specs.{Passing.AreForwarded, Passing.forwarded_from, Passing.way_of}
+use Rattle.aeth_components.specs.{declared.ends.Ends.Ends}
 
 -- An interface passes nothing on.
 forwarded-by-interface : (part : Part) (out : ℕ) (flit : Option Flit)
@@ -91,6 +98,40 @@ module _ {parts : List Part} {wires : List (Option Flit)} {ends : Ends} {wire nu
       ∙ ap (λ (flit : Option Flit). arrived flit (arrival_at onward out))
       (ap (λ (part : Part). forwarded part out (Some flit)) is
       ∙ ap (forwarded (receiver-at lands).0 out) (sym lands.has) ∙ sent-there out))
+
+  -- What is noted of it tells how.
+  pub noted-tells : (noted : List Forwarding) (forwarding : Forwarding)
+      → AreForwarded (map way_of parts) noted → slice_get noted number ≡ Some forwarding
+      → (out : ℕ) → sent_by forwarding out flit ≡ forwarded (receiver-at lands).0 out (Some flit)
+  noted-tells noted forwarding are at out =
+      let (part, there) = receiver-at lands in
+      are.at number (way_of part) forwarding (map-at way_of parts number part there) at out flit
+
+  -- So a flit that is sent goes to a wire.
+  pub noted-below : (forwarding : Forwarding)
+      → ((out : ℕ) → sent_by forwarding out flit ≡ forwarded (receiver-at lands).0 out (Some flit))
+      → (out : ℕ) → IsSome (sent_by forwarding out flit) → out < length wires
+  noted-below forwarding tells out some =
+      let (part, at) = receiver-at lands in
+      elim (cases_Bool (outputs_of part out)) [
+        | inl own ↦ output-below parts (length wires) lands.wired number part at out own
+        | inr not ↦
+            absurd (cc (subst IsSome (tells out ∙ forwarded-output part out (Some flit) not) some))
+      ]
+
+  -- By what is noted it is passed on.
+  pub ForwardedTo-noted : (onward : List Arrival) {next : List Arrival}
+      → ForwardedTo parts wires ends wire onward → (forwarding : Forwarding)
+      → ((out : ℕ) → sent_by forwarding out flit ≡ forwarded (receiver-at lands).0 out (Some flit))
+      → length onward ≡ length wires → Adds (λ out. sent_by forwarding out flit) onward next
+      → ForwardedTo parts wires ends (wire + 1) next
+  ForwardedTo-noted onward came forwarding tells size adds =
+      ForwardedTo-passed onward came (receiver-at lands).0 refl size (record {
+        size = adds.size;
+        at = λ out below.
+            adds.at out below
+            ∙ ap (λ (flit : Option Flit). arrived flit (arrival_at onward out)) (tells out);
+      })
 
   -- An interface does not.
   pub ForwardedTo-kept : (onward : List Arrival) → ForwardedTo parts wires ends wire onward

@@ -10,24 +10,15 @@ use Rattle.aeth_ni.specs.Interface.{InterfaceState}
 use Rattle.aeth_router.specs.declared.part.Part.{Part}
 use Rattle.aeth_router.specs.declared.part.Part.TheVariants.{Interface, Router, Stage, TableRouter}
 use Rattle.aeth_components.specs.{Changes.on_interface, Counting.counted_among}
-use Rattle.aeth_components.specs.{Counting.noted_among, Ends.AreEnds, Ends.is_interface}
-use Rattle.aeth_components.specs.{Frames.IsWired, Frames.frame_of, Seen.flits_landed}
-use Rattle.aeth_components.specs.{Seen.interfaces_latched, Seen.landed, declared.ends.Ends.Ends}
-use Rattle.aeth_components.specs.{declared.lane.Lane.Lane}
+use Rattle.aeth_components.specs.{Counting.noted_among, Ends.AreEnds, Frames.IsWired}
+use Rattle.aeth_components.specs.{Frames.frame_of, Seen.flits_landed, Seen.interfaces_latched}
+use Rattle.aeth_components.specs.{Seen.landed, declared.ends.Ends.Ends, declared.lane.Lane.Lane}
 use Rattle.aeth_components.proofs.ComeLemmas.{came-found, came_to, landing-same, landing_of}
 use Rattle.aeth_components.proofs.MapLemmas.{map-agree, map-apart}
 use Rattle.aeth_components.proofs.PassedLemmas.{end-of, input-of, receiver}
 use Rattle.aeth_components.proofs.TakenLemmas.{OneMore}
 use Rattle.aeth_components.proofs.ThereLemmas.{counts-there, notes-there}
 use Rattle.aeth_components.proofs.WalkedLemmas.{counts-agree, counts-next, notes-agree, notes-next}
-
--- What is no interface stays where interfaces change.
-on_interface-other : (change : InterfaceState → InterfaceState) (part : Part)
-    → is_interface (frame_of part) ≡ false → on_interface change part ≡ part
-on_interface-other change (Interface ni) is = absurd (cc is)
-on_interface-other change (Router router) is = refl
-on_interface-other change (TableRouter router) is = refl
-on_interface-other change (Stage stage) is = refl
 
 -- One wire more has a flit, and a component receives there.
 pub record Lands (parts : List Part) (wires : List (Option Flit)) (ends : Ends) (wire number : ℕ)
@@ -57,19 +48,8 @@ module _ {parts : List Part} {wires : List (Option Flit)} {ends : Ends} {wire nu
       let same : j ≡ number = same_Some j number (sym there ∙ lands.end) in
       (part, sym (ap (slice_get parts) same) ∙ at)
 
-  -- It is no interface: it stays, and so do all.
+  -- It is no interface: all stay.
   module _ (over : ends.interfaces ≤ number) where
-    pub receiver-stays : {now : List Part} (default : Part) → now ≡ flits_landed old parts
-        → get_or now number default ≡ receiver-at.0
-    receiver-stays {now} default is =
-        let (part, at) = receiver-at in
-        ap (λ (parts : List Part). get_or parts number default) is
-        ∙ get_or_from_slice_get (flits_landed old parts) number part default
-        (map-at (landing_of old) parts number part at
-        ∙ ap (λ (part : Part). Some part) (on_interface-other
-        (λ ni. landed (flit_on old ni.entering.0) ni) part
-        (lands.are.others number (frame_of part) (map-at frame_of parts number part at) over)))
-
     same-past : (i : ℕ) (ni : InterfaceState) → slice_get parts i ≡ Some (Interface ni)
         → flit_on new ni.entering.0 ≡ flit_on old ni.entering.0
     same-past i ni at = elim (cases_eq i number) [

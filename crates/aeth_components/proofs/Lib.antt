@@ -14,6 +14,7 @@ pub mod EnteringLemmas
 mod FirstLemmas
 mod FlitLemmas
 mod ForwardedLemmas
+mod ForwardingLemmas
 pub mod FrameLemmas
 mod FullLemmas
 mod HomeLemmas

@@ -12,6 +12,7 @@ pub AreReady-noted : {frames : List Frame} {ways : List Way}
     → AreReady frames ways wires (record turns { injecting = injecting })
 AreReady-noted ready = record {
   ends = ready.ends;
+  noted = ready.noted;
   flits = ready.flits;
   size = ready.size;
   forwarded = ready.forwarded;

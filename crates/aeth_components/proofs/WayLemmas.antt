@@ -2,7 +2,8 @@
 use Rattle.std.proofs.Common.{ℕ, ◌≡◌, refl, true, false, List, Option, Some, None, map, slice_get}
 use Rattle.aeth_base.proofs.Lists.{map-at}
 use Rattle.aeth_clocked.specs.{Wires.flit_on, declared.flit.Flit.Flit}
-use Rattle.aeth_router.proofs.PassingLemmas.{passed-empty}
+use Rattle.aeth_router.proofs.PassingLemmas.{passed-empty, passed-output}
+use Rattle.aeth_router.specs.Part.{outputs_of}
 use Rattle.aeth_router.specs.Passing.{forwarded, has_table, passed}
 use Rattle.aeth_router.specs.declared.part.Part.{Part}
 use Rattle.aeth_router.specs.declared.part.Part.TheVariants.{Interface, Router, Stage, TableRouter}
@@ -14,6 +15,14 @@ forwarded-empty (Interface ni) out = refl
 forwarded-empty (Router router) out = passed-empty (Router router) 0 out 0
 forwarded-empty (TableRouter router) out = refl
 forwarded-empty (Stage stage) out = passed-empty (Stage stage) 0 out 0
+
+-- A component passes on to its outputs alone.
+pub forwarded-output : (part : Part) (out : ℕ) (flit : Option Flit) → outputs_of part out ≡ false
+    → forwarded part out flit ≡ None
+forwarded-output (Interface ni) out flit away = refl
+forwarded-output (Router router) out flit away = passed-output (Router router) 0 out 0 flit away
+forwarded-output (TableRouter router) out flit away = refl
+forwarded-output (Stage stage) out flit away = passed-output (Stage stage) 0 out 0 flit away
 
 -- A component with a table passes nothing on alike in every cycle.
 pub forwarded-by-table : (part : Part) (out : ℕ) (flit : Option Flit) → has_table part ≡ true

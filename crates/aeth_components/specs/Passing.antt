@@ -9,12 +9,14 @@
 --   part_at, passed_from      the component at the end of a wire, and what it sends on of what the wire has
 --   Way, way_of      how a component passes flits on, and whether it needs to know the cycle for that
 --   forwarded_from      what is sent on of what a wire has in every cycle alike
+--   AreForwarded      how each component sends flits on, as it is noted
 --
 -- Components whose state is read off the wires: this project's own.
-use Rattle.std.proofs.Common.{ℕ, Bool, List, Option, option_and_then, slice_get}
+use Rattle.std.proofs.Common.{◌≡◌, ℕ, Bool, List, Option, Some, length, option_and_then, slice_get}
 use Rattle.aeth_clocked.specs.{Wires.flit_on, declared.flit.Flit.Flit}
+use Rattle.aeth_router.specs.Forwarding.{sent_by}
 use Rattle.aeth_router.specs.Passing.{forwarded, has_table, passed}
-use Rattle.aeth_router.specs.declared.part.Part.{Part}
+use Rattle.aeth_router.specs.declared.{forwarding.Forwarding.Forwarding, part.Part.Part}
 
 -- The component at the end of a wire.
 abbrev pub part_at : List ℕ → List Part → ℕ → Option Part
@@ -41,3 +43,10 @@ abbrev pub forwarded_from : List ℕ → List Way → List (Option Flit) → ℕ
 forwarded_from ends ways wires out wire =
     option_and_then (λ way. way.sent out (flit_on wires wire))
     (option_and_then (slice_get ways) (slice_get ends wire))
+
+-- For each component it is noted how it sends flits on in every cycle alike.
+pub record AreForwarded (ways : List Way) (noted : List Forwarding) : Type 0 where
+  pub size : length noted ≡ length ways
+  pub at : (number : ℕ) (way : Way) (forwarding : Forwarding) → slice_get ways number ≡ Some way
+      → slice_get noted number ≡ Some forwarding
+      → (out : ℕ) (flit : Flit) → sent_by forwarding out flit ≡ way.sent out (Some flit)

@@ -18,6 +18,7 @@ use crate::turns::Turns;
 use aeth_base::NoMemory;
 use aeth_chip::Chip;
 use aeth_clocked::Wires;
+use aeth_router::Part;
 use std::alloc::Global;
 
 // The wires, what a cycle needs, which channels hand words on, and what is counted.
@@ -35,6 +36,7 @@ impl Beside {
         alloc: Global,
         chip: &Chip,
         kind: RouterKind,
+        parts: &[Part],
         channels: &Channels,
     ) -> Result<Beside, NoMemory>
         ensures landings { IfOk result (λ made.
@@ -45,7 +47,8 @@ impl Beside {
             → AreHanding parts channels.now.lanes made.handing) }
         ensures wires { IfOk result (λ made.
             made.wires ≡ replicate (wires_of chip.now.links) None) }
-        ensures ready { IfOk result (λ made. (rooms : List ℕ) → AreReady
+        ensures ready { IfOk result (λ made. (rooms : List ℕ)
+            → parts.now ≡ new_parts chip.now kind rooms → AreReady
             (map frame_of (new_parts chip.now kind rooms)) (map way_of (new_parts chip.now kind rooms))
             (replicate (wires_of chip.now.links) None) made.turns) }
         ensures injecting { IfOk result (λ made. (rooms : List ℕ) → AreInjecting
@@ -54,7 +57,7 @@ impl Beside {
         let counts = Counts::new(alloc, channels.count_words(), chip.links() as usize)?;
         let handing = Handing::new(alloc, channels.lanes().len())?;
         let wires = Wires::new(alloc, chip.wires())?;
-        let turns = Turns::new(alloc, chip, kind)?;
+        let turns = Turns::new(alloc, chip, kind, parts)?;
         Ok(Beside {
             counts,
             handing,

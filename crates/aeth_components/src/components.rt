@@ -30,6 +30,7 @@ use crate::channels::Channels;
 use crate::counts::Counts;
 use crate::driving::drive;
 use crate::event::Event;
+use crate::forwarding::note_forwarding;
 use crate::handing::Handing;
 use crate::landing::land;
 use crate::lane::Lane;
@@ -303,6 +304,7 @@ impl Components {
     {
         lose(&mut self.wires, &self.turns.ends.receivers, place);
         self.turns.has_tables = part.has_table() | self.turns.has_tables;
+        note_forwarding(&mut self.turns.forwarding, place, &part);
         set(&mut self.parts, place, part);
         pass_on(&self.parts, &mut self.turns, &self.wires, onward);
     }
@@ -322,7 +324,7 @@ impl Components {
     {
         let _ = chip.slots();
         let parts = parts_of(alloc, chip, kind, rooms)?;
-        let beside = Beside::of(alloc, chip, kind, &channels)?;
+        let beside = Beside::of(alloc, chip, kind, &parts, &channels)?;
         Ok(Components {
             parts,
             wires: beside.wires,

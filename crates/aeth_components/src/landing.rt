@@ -8,7 +8,7 @@ ghost use Rattle.aeth_components.specs.Ends.{AreEnds};
 ghost use Rattle.aeth_components.specs.Frames.{IsWired, frame_of};
 ghost use Rattle.aeth_components.specs.Injecting.{AreInjecting, queue_told};
 ghost use Rattle.aeth_components.specs.Lanes.{IsLane};
-ghost use Rattle.aeth_components.specs.Passing.{forwarded_from, way_of};
+ghost use Rattle.aeth_components.specs.Passing.{AreForwarded, forwarded_from, way_of};
 ghost use Rattle.aeth_components.specs.Seen.{flits_landed, interfaces_latched, landed};
 ghost use Rattle.aeth_components.specs.Turns.{flits_on};
 ghost use Rattle.aeth_ni.specs.Queue.{capped};
@@ -20,7 +20,7 @@ use crate::injecting::Injecting;
 use crate::turns::Turns;
 use aeth_base::{LinkId, Steps};
 use aeth_clocked::{Flit, Wires};
-use aeth_router::Part;
+use aeth_router::{Forwarding, Part};
 use std::sync::ledger::Ledger;
 
 // Counts the flits on the wires, and has those latched and their words counted that come to interfaces.
@@ -36,6 +36,7 @@ pub(crate) fn land<L: Ledger>(
 )
     requires wired { IsWired (map frame_of parts.old) (length wires.now) }
     requires ends { AreEnds (map frame_of parts.old) (length wires.now) turns.old.ends }
+    requires noted { AreForwarded (map way_of parts.old) turns.old.forwarding.items }
     requires onward { turns.old.onward ≡ replicate (length wires.now) Nothing }
     requires injecting { AreInjecting parts.old turns.old.injecting }
     requires lanes { All (IsLane (length counts.old.landings.items) (length parts.old))
@@ -64,12 +65,14 @@ pub(crate) fn land<L: Ledger>(
 {
     let Turns {
         ends,
+        forwarding,
         injecting,
         onward,
         flits,
         ..
     } = turns;
     let receivers: &[u32] = &ends.receivers;
+    let forwardings: &[Forwarding] = forwarding;
     let interfaces = ends.interfaces as usize;
     let mut all = 0;
     for wire in wires.used() {
@@ -81,7 +84,7 @@ pub(crate) fn land<L: Ledger>(
             injecting.wake_told(number, told);
             channels.count_at(parts, number, &mut counts.landings, cycle);
         } else {
-            parts[number].forward(flit, onward);
+            forwardings[number].pass(flit, onward);
         }
         all += 1;
         steps.tick();

@@ -9,6 +9,7 @@ mod counts;
 mod driving;
 mod ends;
 mod event;
+mod forwarding;
 mod handing;
 mod homes;
 mod injecting;

@@ -1,5 +1,6 @@
 mod AddsLemmas
 mod ContendedLemmas
+mod ForwardingLemmas
 pub mod IdleLemmas
 pub mod LinkLemmas
 pub mod OnwardLemmas

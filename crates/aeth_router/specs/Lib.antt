@@ -1,4 +1,5 @@
 pub mod Agreement
+pub mod Forwarding
 pub mod Onward
 pub mod Part
 pub mod PartAgreement

@@ -3,6 +3,7 @@
 #![tactic(auto)]
 
 mod entries;
+mod forwarding;
 mod onward;
 mod part;
 mod router;
@@ -12,6 +13,7 @@ mod stage;
 mod table_router;
 mod traffic;
 
+pub use forwarding::Forwarding;
 pub use onward::Onward;
 pub use part::Part;
 pub use router::Router;

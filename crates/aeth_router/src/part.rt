@@ -1,7 +1,9 @@
 // A component of any kind.
 
-ghost use Rattle.std.specs.Prelude.{◌≡◌, Some, length};
+ghost use Rattle.std.specs.Prelude.{◌≡◌, ℕ, Some, length};
 ghost use Rattle.aeth_clocked.specs.Wires.{AreLinks};
+ghost use Rattle.aeth_clocked.specs.declared.flit.Flit.{Flit};
+ghost use Rattle.aeth_router.specs.Forwarding.{sent_by};
 ghost use Rattle.aeth_router.specs.Onward.{Adds};
 ghost use Rattle.aeth_router.specs.Part.{outputs_of, inputs_of, emit_of, after_of, absorb_of};
 ghost use Rattle.aeth_router.specs.PartAgreement.{outputs_of-after, inputs_of-after};
@@ -9,6 +11,7 @@ ghost use Rattle.aeth_router.specs.PartAgreement.{outputs_of-absorb, inputs_of-a
 ghost use Rattle.aeth_router.specs.PartAgreement.{absorb_of-agrees};
 ghost use Rattle.aeth_router.specs.Passing.{forwarded, has_table, passed};
 
+use crate::forwarding::Forwarding;
 use crate::onward::Onward;
 use crate::router::Router;
 use crate::stage::Stage;
@@ -66,6 +69,18 @@ impl Part {
             Part::Router(router) => router.pass(flit, onward),
             Part::Stage(stage) => stage.pass(flit, onward),
             Part::Interface(_) | Part::TableRouter(_) => {}
+        }
+    }
+
+    /// How the component sends flits on in every cycle alike, which never changes.
+    pub fn forwarding(&self) -> Forwarding
+        ensures { (out : ℕ) (flit : Flit)
+            → sent_by result out flit ≡ forwarded self.now out (Some flit) }
+    {
+        match self {
+            Part::Router(router) => router.forwarding(),
+            Part::Stage(stage) => stage.forwarding(),
+            Part::Interface(_) | Part::TableRouter(_) => Forwarding::Nowhere,
         }
     }
 }

@@ -1,10 +1,12 @@
 // A router: flits latched in one cycle and driven in the next.
 
-ghost use Rattle.std.specs.Prelude.{◌≡◌, ◌<◌, ◌↔◌, IfOk, IsTrue, None, Some, false, length, map};
+ghost use Rattle.std.specs.Prelude.{◌≡◌, ◌<◌, ◌↔◌, ℕ, IfOk, IsTrue, None, Some, false, length, map};
 ghost use Rattle.std.specs.Prelude.{replicate};
 ghost use Rattle.aeth_chip.specs.Nodes.{sends_on};
 ghost use Rattle.aeth_clocked.specs.Resting.{HasNoFlit};
 ghost use Rattle.aeth_clocked.specs.Wires.{AreLinks, flit_on};
+ghost use Rattle.aeth_clocked.specs.declared.flit.Flit.{Flit};
+ghost use Rattle.aeth_router.specs.Forwarding.{sent_by};
 ghost use Rattle.aeth_router.specs.Onward.{Adds};
 ghost use Rattle.aeth_router.specs.Ports.{toward};
 ghost use Rattle.aeth_router.specs.Router.{is_among, last_wire, new_router, numbers_of};
@@ -14,6 +16,7 @@ ghost use Rattle.aeth_router.specs.TableRouter.{sent_on};
 ghost use Rattle.aeth_router.specs.Agreement.{router_absorb-agrees};
 ghost use Rattle.std.proofs.Common.{refl};
 
+use crate::forwarding::{Forwarding, links_of_ports};
 use crate::onward::Onward;
 use crate::traffic::{clear, emit};
 use aeth_base::{LinkId, NoMemory, RouterId};
@@ -85,6 +88,14 @@ impl Router {
         if let Some(link) = self.outgoing.get(port as usize) {
             onward.add(*link, Flit { header, ..flit });
         }
+    }
+
+    // How a router sends flits on.
+    pub(crate) fn forwarding(&self) -> Forwarding
+        ensures { (out : ℕ) (flit : Flit) → sent_by result out flit
+            ≡ sent_on self.now.outgoing (λ port. toward port (Some flit)) out }
+    {
+        Forwarding::ByPort(links_of_ports(&self.outgoing))
     }
 
     // Whether no flit is held.

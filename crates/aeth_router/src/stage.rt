@@ -1,12 +1,14 @@
 // A stage of a link with a delay.
 
 ghost use Rattle.std.specs.Prelude.{◌≡◌, ◌≢◌, ◌<◌, ◌==◌, if◌then◌else◌, None, Some, length};
+ghost use Rattle.aeth_router.specs.declared.forwarding.Forwarding.TheVariants.{Straight};
 ghost use Rattle.std.proofs.Common.{refl};
 ghost use Rattle.aeth_router.specs.Agreement.{stage_absorb-agrees};
 ghost use Rattle.aeth_router.specs.Onward.{Adds};
 ghost use Rattle.aeth_router.specs.Stage.{new_stage, stage_outputs, stage_inputs, stage_emit};
 ghost use Rattle.aeth_router.specs.Stage.{stage_after, stage_absorb};
 
+use crate::forwarding::Forwarding;
 use crate::onward::Onward;
 use aeth_base::LinkId;
 use aeth_clocked::{Clocked, Flit, Wires};
@@ -58,6 +60,13 @@ impl Stage {
             onward.old onward.new }
     {
         onward.add(self.output, flit);
+    }
+
+    // How a stage sends flits on.
+    pub(crate) fn forwarding(&self) -> Forwarding
+        ensures { result ≡ Straight self.now.output }
+    {
+        Forwarding::Straight(self.output)
     }
 }
 

@@ -13,7 +13,7 @@ use aeth_clocked::{Flit, Wires};
 use aeth_header::{PORT_BITS, hop};
 
 // The output ports that a header can name.
-const PORTS: usize = 1 << PORT_BITS;
+pub(crate) const PORTS: usize = 1 << PORT_BITS;
 
 /// Puts on each outgoing link the one flit that names its port, behind its hop.
 pub(crate) fn emit(outgoing: &[LinkId], held: &[Option<Flit>], wires: &mut Wires)

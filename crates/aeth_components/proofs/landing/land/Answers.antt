@@ -1,24 +1,24 @@
 use Rattle.std.proofs.Common.{◌≡◌, ◌<◌, ◌+◌, ◌==◌, ◌++◌, ◌^◌, ◌∙◌, ℕ, [], ap, ap₂, arith, drop}
-use Rattle.std.proofs.Common.{fold, get_or, length, length-set, map, refl, set, slice_get, Some}
-use Rattle.std.proofs.Common.{sym, take}
+use Rattle.std.proofs.Common.{fold, get_or, length, length-set, map, refl, set, slice_get, List}
+use Rattle.std.proofs.Common.{Some, sym, take}
 use Rattle.std.proofs.lemmas.List.{length-map, length-replicate, Elements.All-map}
 use Rattle.std.proofs.lemmas.Option.{slice_get-get_or}
 use Rattle.aeth_base.proofs.Lists.{written_back}
 use Rattle.aeth_clocked.proofs.UsedLemmas.{NextUsed, used-end, used-next}
 use Rattle.aeth_clocked.specs.{Wires.flit_on, Wires.used_from, declared.flit.Flit.Flit}
 use Rattle.aeth_router.specs.Onward.{Nothing}
+use Rattle.aeth_router.specs.declared.forwarding.Forwarding.{Forwarding, TheVariants.ByPort}
 use Rattle.aeth_components.proofs.AmongLemmas.{IsLane-among}
 use Rattle.aeth_components.proofs.ComeLemmas.{came_to, counts-all, counts-none, flits_landed-none}
 use Rattle.aeth_components.proofs.ComeLemmas.{flits_landed-same, notes-all, notes-none}
 use Rattle.aeth_components.proofs.CountingLemmas.{flits_counted-until, flits_counted-whole}
 use Rattle.aeth_components.proofs.ForwardedLemmas.{ForwardedTo-kept, ForwardedTo-none}
-use Rattle.aeth_components.proofs.ForwardedLemmas.{ForwardedTo-passed, ForwardedTo-until}
+use Rattle.aeth_components.proofs.ForwardedLemmas.{ForwardedTo-noted, ForwardedTo-until}
+use Rattle.aeth_components.proofs.ForwardedLemmas.{noted-below, noted-tells}
 use Rattle.aeth_components.proofs.LandedLemmas.{Lands, counts-more, counts-past, flits_landed-more}
 use Rattle.aeth_components.proofs.LandedLemmas.{flits_landed-past, notes-more, notes-past}
-use Rattle.aeth_components.proofs.LandedLemmas.{receiver-at, receiver-stays}
 use Rattle.aeth_components.proofs.InjectingLemmas.{HasPlaces-part}
 use Rattle.aeth_components.proofs.WokenLemmas.{AreInjecting-latched}
-use Rattle.aeth_components.proofs.OwnLemmas.{output-below}
 use Rattle.aeth_components.proofs.TakenLemmas.{OneMore-next, flit_on-all, flits_counted-next}
 use Rattle.aeth_components.proofs.TakenLemmas.{flits_on-all, flits_on-few, flits_on-next}
 use Rattle.aeth_components.proofs.WalkedLemmas.{length-notes_among}
@@ -27,7 +27,7 @@ use Rattle.aeth_components.proofs.landing.land.Goals.{else-number-interfaces}
 use Rattle.aeth_components.proofs.landing.land.Goals.{then-number-interfaces}
 use Rattle.aeth_components.specs.{Channels.ChannelsState, Counting.counted_among}
 use Rattle.aeth_components.specs.{Counting.flits_counted, Counting.noted_among, Frames.frame_of}
-use Rattle.aeth_components.specs.{Lanes.IsLane, Seen.interfaces_latched}
+use Rattle.aeth_components.specs.{Lanes.IsLane, Passing.way_of, Seen.interfaces_latched}
 use Rattle.aeth_components.specs.{declared.counts.Counts.Counts}
 use Rattle.aeth_components.proofs.landing.land.Given as given
 use Rattle.aeth_components.proofs.landing.land.Goals as goal
@@ -57,6 +57,16 @@ within g c =
     (omega (arith, below, are.fits.receivers)) in
     let count = are.count ∙ length-map c.args.parts.now frame_of in
     rw c.deref-receivers.ensures.value (omega (arith, number, count))
+
+-- How it sends flits on is noted.
+noted_at : (g : given.Over) (c : In-Some g) (noted : List Forwarding)
+    → noted ≡ c.args.turns.now.forwarding.items
+    → slice_get c.args.turns.now.forwarding.items (get_or c.deref-receivers.result.now c.in-Some.wire 0)
+    ≡ Some (get_or noted (get_or c.deref-receivers.result.now c.in-Some.wire 0) (ByPort []))
+noted_at g c noted same =
+    let size = c.requires.noted.size ∙ length-map c.args.parts.now way_of in
+    rw same (slice_get-get_or c.args.turns.now.forwarding.items
+    (get_or c.deref-receivers.result.now c.in-Some.wire 0) (ByPort []) (rw size (within g c)))
 
 -- Before the first wire nothing has landed, or is passed on.
 pub loop-wire-init : goal.loop-wire-init
@@ -113,11 +123,17 @@ pub bounds-parts-number : goal.bounds-parts-number
 bounds-parts-number g c =
     rw c.loop-wire.auto.parts (within g ((goal.at.bounds-parts-number g c).In-Some))
 
-pub offset_bounds-parts-number-else-number-interfaces :
-    goal.offset_bounds-parts-number-else-number-interfaces
-offset_bounds-parts-number-else-number-interfaces g c =
-    let some = (goal.at.offset_bounds-parts-number-else-number-interfaces g c).In-Some in
+pub offset_bounds-forwardings-number : goal.offset_bounds-forwardings-number
+offset_bounds-forwardings-number g c =
+    let some = (goal.at.offset_bounds-forwardings-number g c).In-Some in
     omega (arith, within g some, few g some)
+
+-- As many are noted.
+pub bounds-forwardings-number : goal.bounds-forwardings-number
+bounds-forwardings-number g c =
+    let size = c.requires.noted.size ∙ length-map c.args.parts.now way_of in
+    rw (c.deref-forwardings.ensures.value, size)
+    (within g ((goal.at.bounds-forwardings-number g c).In-Some))
 
 there : (g : given.Over) (c : In-Some g)
     → get_or c.deref-receivers.result.now c.in-Some.wire 0 < length c.loop-wire.parts
@@ -169,11 +185,6 @@ count_at-requires-clause-lanes g c =
     (λ k lane within. IsLane-among c.args.cycle latched before words (length parts) _
     (c.requires.lanes k lane within)))
 
-pub bounds-parts-number-else-number-interfaces : goal.bounds-parts-number-else-number-interfaces
-bounds-parts-number-else-number-interfaces g c =
-    rw c.loop-wire.auto.parts
-    (within g ((goal.at.bounds-parts-number-else-number-interfaces g c).In-Some))
-
 -- Its flit comes to the component at its end.
 lands : (g : given.Over) (c : In-Some g) (flit : Flit)
     → flit_on c.args.wires.now c.in-Some.wire ≡ Some flit
@@ -191,17 +202,18 @@ lands g c flit has =
       more = OneMore-next next has;
     }
 
--- The outputs of one that is no interface are wires.
-pub forward-requires : goal.forward-requires
-forward-requires g c =
-    let lands = lands g ((goal.at.forward-requires g c).In-Some) c.flit-flit.result c.flit-flit.ensures in
-    rw (
-      receiver-stays lands c.if-number-interfaces.false
-          c.index-parts-number-else-number-interfaces.result c.loop-wire.invariant.parts,
-      c.loop-wire.invariant.size,
-    )
-    (output-below c.args.parts.now (length c.args.wires.now) c.requires.wired
-    (get_or c.deref-receivers.result.now c.in-Some.wire 0) (receiver-at lands).0 (receiver-at lands).1)
+-- What is noted of one that is no interface sends its flit to wires.
+pub pass-requires : goal.pass-requires
+pass-requires g c =
+    let some = (goal.at.pass-requires g c).In-Some in
+    let lands = lands g some c.flit-flit.result c.flit-flit.ensures in
+    let noted = c.deref-forwardings in
+    let forwarding = get_or noted.result.now (get_or c.deref-receivers.result.now c.in-Some.wire 0)
+    (ByPort []) in
+    rw c.loop-wire.invariant.size
+    (noted-below lands forwarding
+    (noted-tells lands c.args.turns.now.forwarding.items forwarding c.requires.noted
+    (noted_at g some noted.result.now noted.ensures.value)))
 
 pub overflow_add-all : goal.overflow_add-all
 overflow_add-all g c =
@@ -281,7 +293,8 @@ loop-wire-preserved g c =
           }
       | else-number-interfaces w ↦
           let over = w.if-number-interfaces.false in
-          let default = w.index-parts-number-else-number-interfaces.result in
+          let noted = c.deref-forwardings in
+          let forwarding = get_or noted.result.now number (ByPort []) in
           record {
             from = wire + 1;
             left = next.behind;
@@ -295,10 +308,11 @@ loop-wire-preserved g c =
                 ∙ notes-past lands over cycle lanes landings;
             flits = ap (λ (counts : Counts). counts.flits.items) w.counts-is ∙ flits;
             all = ap (λ n. n + 1) done.all ∙ sym one;
-            size = ap length w.onward-is ∙ w.forward.ensures.size ∙ done.size;
-            forwarded = rw w.onward-is (ForwardedTo-passed lands c.loop-wire.onward came
-                (get_or c.loop-wire.parts number default)
-                (receiver-stays lands over default done.parts) done.size w.forward.ensures);
+            size = ap length w.onward-is ∙ w.pass.ensures.size ∙ done.size;
+            forwarded = rw w.onward-is (ForwardedTo-noted lands c.loop-wire.onward came
+                forwarding (noted-tells lands c.args.turns.now.forwarding.items forwarding
+                c.requires.noted (noted_at g some noted.result.now noted.ensures.value)) done.size
+                w.pass.ensures);
             steps = omega (arith, c.tick.ensures, done.steps, one);
           }
     ]

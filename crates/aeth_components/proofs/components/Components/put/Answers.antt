@@ -9,6 +9,7 @@ use Rattle.aeth_clocked.specs.Wires.{flit_on}
 use Rattle.aeth_router.specs.declared.part.Part.{Part}
 use Rattle.aeth_router.specs.declared.part.Part.TheVariants.{Interface, Router, Stage, TableRouter}
 use Rattle.aeth_components.proofs.{components.Components.put.Goals.After-lose}
+use Rattle.aeth_components.proofs.{components.Components.put.Goals.After-note_forwarding}
 use Rattle.aeth_components.proofs.{components.Components.put.Goals.After-set}
 use Rattle.aeth_components.proofs.{CycleLemmas.IsComponents-replaced, CycleLemmas.views-slice_set}
 use Rattle.aeth_components.proofs.{ReplacedLemmas.all_seen-replaced, ReplacedLemmas.receives-there}
@@ -18,8 +19,9 @@ use Rattle.aeth_components.proofs.{TableLemmas.tables-replaced, WaitingLemmas.Ar
 use Rattle.aeth_components.proofs.{WokenLemmas.AreInjecting-kept}
 use Rattle.aeth_components.specs.{Changes.told_by, Components.components_of, Components.frames_of}
 use Rattle.aeth_components.specs.{Ends.AreEnds, Ends.is_interface, Frames.Frame, Frames.IsWired}
-use Rattle.aeth_components.specs.{Frames.frame_of, Handing.room_left, Passing.way_of}
-use Rattle.aeth_components.specs.{Replacing.without_held, declared.turns.Turns.Turns}
+use Rattle.aeth_components.specs.{Frames.frame_of, Handing.room_left, Passing.AreForwarded}
+use Rattle.aeth_components.specs.{Passing.way_of, Replacing.without_held}
+use Rattle.aeth_components.specs.{declared.turns.Turns.Turns}
 use Rattle.aeth_components.proofs.components.Components.put.Goals as goal
 
 -- A component that is no interface has no room.
@@ -82,15 +84,35 @@ lost c =
     ∙ receives-there (now c) wires c.self.inside.turns.ends c.args.place part (wired c) (ends c) (at c)
     wire within))
 
+-- How it sends flits on is noted.
+pub note_forwarding-requires : goal.note_forwarding-requires
+note_forwarding-requires c =
+    let size = c.self.invariant.1.noted.size ∙ length-map c.self.inside.parts.items way_of in
+    rw (c.deref_mut.ensures.value, size) (there ((goal.at.note_forwarding-requires c).After-lose))
+
+noted : (c : After-note_forwarding)
+    → AreForwarded (map way_of (set c.self.inside.parts.items c.args.place c.args.part))
+    (take c.self.inside.turns.forwarding.len (c.note_forwarding.new.noted
+    ++ drop (length c.note_forwarding.new.noted) c.self.inside.turns.forwarding.items))
+noted c =
+    let list = c.self.inside.turns.forwarding in
+    rw (written_back list.items c.note_forwarding.new.noted list.len list.ok.0
+    (c.note_forwarding.auto.noted ∙ ap length c.deref_mut.ensures.value))
+    (c.note_forwarding.ensures c.self.inside.parts.items
+    (rw c.deref_mut.ensures.value c.self.invariant.1.noted))
+
 -- The component stands at its place.
+pub set-requires : goal.set-requires
+set-requires c = rw c.deref_mut-2.ensures.value (there ((goal.at.set-requires c).After-lose))
+
 written : (c : After-set) → take c.self.inside.parts.len (c.set.new.parts
     ++ drop (length c.set.new.parts) c.self.inside.parts.items)
     ≡ set c.self.inside.parts.items c.args.place c.args.part
 written c =
     written_back c.self.inside.parts.items c.set.new.parts c.self.inside.parts.len
-    c.self.inside.parts.ok.0 (c.set.auto.parts ∙ ap length c.deref_mut.ensures.value)
+    c.self.inside.parts.ok.0 (c.set.auto.parts ∙ ap length c.deref_mut-2.ensures.value)
     ∙ c.set.ensures
-    ∙ ap (λ (parts : List Part). set parts c.args.place c.args.part) c.deref_mut.ensures.value
+    ∙ ap (λ (parts : List Part). set parts c.args.place c.args.part) c.deref_mut-2.ensures.value
 
 pub pass_on-requires-clause-wired : goal.pass_on-requires-clause-wired
 pass_on-requires-clause-wired c =
@@ -128,6 +150,7 @@ invariant_of-self c =
       },
       record {
         ends = rw (c.pass_on.ensures.turns, size) (ends lose);
+        noted = rw c.pass_on.ensures.turns (noted ((goal.at.invariant_of-self c).After-note_forwarding));
         flits = ap (λ (turns : Turns). turns.flits) c.pass_on.ensures.turns;
         size = c.pass_on.ensures.size;
         forwarded = (

@@ -69,6 +69,7 @@ land-requires g c =
     record {
       wired = rw (parts, sized g run, framed g run) c.self.invariant.0.wired;
       ends = rw (parts, sized g run, framed g run, c.run.ensures.turns) c.self.invariant.1.ends;
+      noted = rw (parts, c.run.ensures.ways, c.deref_mut.ensures.value, c.run.ensures.turns) c.self.invariant.1.noted;
       onward = rw (sized g run, c.run.ensures.turns) refl;
       injecting = rw parts c.run.ensures.injecting;
       lanes = rw (parts, c.self.invariant.0.landings, ← c.run.ensures.words) c.run.ensures.lanes;
@@ -127,6 +128,7 @@ ready g c =
     let ways = c.run.ensures.ways ∙ ap (map way_of) c.deref_mut.ensures.value in
     rw (c.land.ensures.turns, frames-landed wires parts, ways-landed wires parts) (record {
       ends = rw (c.run.ensures.turns, framed g run, sized g run) before.ends;
+      noted = rw (c.run.ensures.turns, ways) before.noted;
       flits = refl;
       size = c.land.ensures.size;
       forwarded = rw read at c.land.ensures.forwarded;
