@@ -7,7 +7,7 @@ use Rattle.aeth_components.specs.declared.injecting.Injecting.{Injecting}
 use Rattle.aeth_components.proofs.InjectingLemmas.{length-table}
 
 module _ (cycle slot : ℕ) (parts : List Part) (injecting : Injecting)
-    (are : AreInjecting parts injecting) (is : slot ≡ cycle % length injecting.slots.items)
+    (are : AreInjecting parts injecting) (is : slot ≡ cycle % length injecting.slots)
     (number : ℕ) (part : Part) (at : slice_get parts number ≡ Some part) where
   -- It is the slot of the cycle there.
   pub slot-own : 0 < length (entries_of part) → cycle % length (entries_of part) ≡ slot

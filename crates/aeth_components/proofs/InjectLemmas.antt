@@ -12,15 +12,14 @@ use Rattle.aeth_base.specs.Marks.{bit_of}
 use Rattle.aeth_clocked.specs.{Wires.Drives, Wires.flit_on, declared.flit.Flit.Flit}
 use Rattle.aeth_router.specs.{Part.after_of, Part.emit_of, Part.outputs_of, declared.part.Part.Part}
 use Rattle.aeth_components.specs.{declared.injecting.Injecting.Injecting, Frames.IsWired}
-use Rattle.aeth_components.specs.{Frames.frame_of, Injecting.AreInjecting, Injecting.marks_at}
+use Rattle.aeth_components.specs.{Frames.frame_of, Injecting.AreInjecting, SlotMarks.marks_at}
 use Rattle.aeth_components.specs.{Handing.HasWaitingPlaces, Handing.Wakes, Seen.interfaces_driven}
 use Rattle.aeth_components.specs.{Sending.Injects, Sending.IsSending, Turns.AreSendersMarked}
 use Rattle.aeth_components.specs.{Turns.sends_own, declared.handing.Handing.Handing}
 use Rattle.aeth_components.proofs.InjectingLemmas.{AreInjecting-sends}
 use Rattle.aeth_components.proofs.FrameLemmas.{AreDisjoint-parts}
 use Rattle.aeth_components.proofs.OwnLemmas.{after-sends, flit_on-other, flit_on-own}
-use Rattle.aeth_components.proofs.OwnLemmas.{option_map-still, mute-unmarked, output-below}
-use Rattle.aeth_components.proofs.OwnLemmas.{own_driven, still-mute}
+use Rattle.aeth_components.proofs.OwnLemmas.{option_map-still, output-below, own_driven, still-mute}
 use Rattle.aeth_components.proofs.WakingLemmas.{Wakes-more, Wakes-none, Wakes-same}
 
 -- The components below a number have driven what they send of their own, and who waits there is woken.
@@ -102,17 +101,20 @@ module _ {cycle : ℕ} {parts : List Part} {wires : List (Option Flit)} {handing
 
   -- So those are up to the next marked one, where all that may send are marked.
   pub InjectedTo-passed : (injecting : Injecting) → AreInjecting now_parts injecting → (slot next : ℕ)
-      → slot ≡ cycle % length injecting.slots.items → to ≤ next
+      → slot ≡ cycle % length injecting.slots → to ≤ next
       → ((number : ℕ) → to ≤ number → number < next
-      → bit_of (marks_at injecting.slots.items slot) number ≡ 0)
+      → bit_of (marks_at injecting.slots slot) number ≡ 1 → ⊥)
       → InjectedTo cycle parts wires handing steps next now_parts now_wires now_handing now_steps
   InjectedTo-passed injecting are slot next is further none =
-      let marks = marks_at injecting.slots.items slot in
+      let marks = marks_at injecting.slots slot in
       let senders : AreSendersMarked cycle now_parts marks =
       rw is (AreInjecting-sends cycle now_parts injecting are) in
       InjectedTo-until next further (λ number part at over below.
-      mute-unmarked cycle now_parts marks senders number part (injected.behind number over ∙ at)
-      (none number over below))
+      elim (cases_Bool (sends_own cycle part)) [
+        | inl sends ↦
+            absurd (none number over below (senders number part (injected.behind number over ∙ at) sends))
+        | inr rests ↦ rests
+      ])
 
   -- The next is as it was.
   pub InjectedTo-next : (read : Part) → to < length parts

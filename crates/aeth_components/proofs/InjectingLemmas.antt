@@ -23,8 +23,8 @@ use Rattle.aeth_components.specs.Changes.{event_done, happened, on_interface, wi
 use Rattle.aeth_components.specs.Events.{IsDoable, event_part}
 use Rattle.aeth_components.specs.Frames.{Frame}
 use Rattle.aeth_components.specs.Injecting.{AreEntered, AreInjecting, HasPlaces, IsEntered}
-use Rattle.aeth_components.specs.Injecting.{MarksMore, NotesEvent, entries_of, entry_at, marks_at}
-use Rattle.aeth_components.specs.Injecting.{may_send, table_at}
+use Rattle.aeth_components.specs.Injecting.{NotesEvent, entries_of, entry_at, may_send, table_at}
+use Rattle.aeth_components.specs.SlotMarks.{MarksMore, marks_at}
 use Rattle.aeth_components.specs.Switching.{SlotWrite, Touches, Writes, entry_of, event_end}
 use Rattle.aeth_components.specs.Switching.{slot_write, slot_written}
 use Rattle.aeth_components.specs.Turns.{AreSendersMarked, sends_own}
@@ -45,8 +45,8 @@ HasPlaces-fewer count fewer injecting less places = record {
 }
 
 pub HasPlaces-moved : (count : ℕ) (old new : Injecting) → HasPlaces count old
-    → length new.slots.items ≡ length old.slots.items
-    → ((slot : ℕ) → room_of (marks_at new.slots.items slot) ≡ room_of (marks_at old.slots.items slot))
+    → length new.slots ≡ length old.slots
+    → ((slot : ℕ) → room_of (marks_at new.slots slot) ≡ room_of (marks_at old.slots slot))
     → room_of new.entries ≡ room_of old.entries → HasPlaces count new
 HasPlaces-moved count old new places size room entries = record {
   some = (let some = places.some in omega (arith, some, size));
@@ -54,7 +54,7 @@ HasPlaces-moved count old new places size room entries = record {
   room = λ slot default below.
       let before = places.room slot [] (omega (arith, size, below)) in
       let same = room slot in
-      let read = ap room_of (get_or_default new.slots.items slot default [] below) in
+      let read = ap room_of (get_or_default new.slots slot default [] below) in
       omega (arith, before, same, read);
   entries = (let before = places.entries in omega (arith, before, entries));
   few = places.few;
@@ -226,7 +226,7 @@ by-end event number queue (Some end) is own other =
 -- A slot with an entry is one of those that there are, and the entry is noted.
 module _ (parts : List Part) (injecting : Injecting) (are : AreEntered (map entries_of parts) injecting)
     (number slot queue : ℕ) (is : entry_of parts number slot ≡ Some queue) where
-  pub entry-below : slot < length injecting.slots.items
+  pub entry-below : slot < length injecting.slots
   entry-below =
       let table = table_at (map entries_of parts) number in
       let within : slot < length table = entry-within table slot queue (entry_at-parts parts number slot ∙ is) in
@@ -247,14 +247,14 @@ module _ (event : Event) (parts : List Part) (old new : Injecting) (notes : Note
       ∙ sym (length-map parts entries_of)
 
   size-happened : (number : ℕ) → 0 < length (table_at (map entries_of (happened parts event)) number)
-      → length (table_at (map entries_of (happened parts event)) number) ≡ length old.slots.items
+      → length (table_at (map entries_of (happened parts event)) number) ≡ length old.slots
   size-happened number some =
       let same = length-tables (on_interface (event_done event)) (length-done event) parts
       (event_part event) number in
       same ∙ are.tables.size number (omega (arith, same, some))
 
   below-happened : (number slot queue : ℕ) → entry_of (happened parts event) number slot ≡ Some queue
-      → slot < length old.slots.items
+      → slot < length old.slots
   below-happened number slot queue is =
       let table = table_at (map entries_of (happened parts event)) number in
       let within : slot < length table =
@@ -265,7 +265,7 @@ module _ (event : Event) (parts : List Part) (old new : Injecting) (notes : Note
   -- The entry that it writes, and any other.
   own-happened : (number slot queue : ℕ) → entry_of (happened parts event) number slot ≡ Some queue
       → (write : SlotWrite) → slot_write event ≡ Some write → number ≡ write.ni.0 → slot ≡ write.slot
-      → IsEntered new number queue slot × (bit_of (marks_at new.slots.items slot) number ≡ 1)
+      → IsEntered new number queue slot × (bit_of (marks_at new.slots slot) number ≡ 1)
   own-happened number slot queue is write writes there here =
       let within = below-happened number slot queue is in
       rw (there, here) (notes.written write queue writes
@@ -284,7 +284,7 @@ module _ (event : Event) (parts : List Part) (old new : Injecting) (notes : Note
   -- The queue that it changes is woken, and any other is as it was.
   marked-kept : (number slot queue : ℕ) → entry_of parts number slot ≡ Some queue
       → may_send (happened parts event) number queue ≡ true
-      → bit_of (marks_at new.slots.items slot) number ≡ 1
+      → bit_of (marks_at new.slots slot) number ≡ 1
   marked-kept number slot queue is sends =
       by-end event number queue (event_end event) refl
       (λ end ends there here.
@@ -296,7 +296,7 @@ module _ (event : Event) (parts : List Part) (old new : Injecting) (notes : Note
 
   marked-happened : (number slot queue : ℕ) → entry_of (happened parts event) number slot ≡ Some queue
       → may_send (happened parts event) number queue ≡ true
-      → bit_of (marks_at new.slots.items slot) number ≡ 1
+      → bit_of (marks_at new.slots slot) number ≡ 1
   marked-happened number slot queue is sends =
       by-write event number slot (slot_write event) refl
       (λ write writes there here. (own-happened number slot queue is write writes there here).1)
@@ -325,13 +325,13 @@ module _ (event : Event) (parts : List Part) (old new : Injecting) (notes : Note
 -- So an event is noted that clears an entry.
 pub NotesEvent-cleared : (event : Event) (write : SlotWrite) (old new : Injecting)
     → slot_write event ≡ Some write → event_end event ≡ None
-    → length old.slots.items ≤ max_slots
+    → length old.slots ≤ max_slots
     → new.slots ≡ old.slots → room_of new.entries ≡ room_of old.entries → write.entry ≡ None
     → ((other at queue : ℕ) → at < max_slots → (other ≢ write.ni.0) ⊎ (at ≢ write.slot)
     → IsEntered old other queue at → IsEntered new other queue at)
     → NotesEvent event old new
 NotesEvent-cleared event write old new writes none most slots room cleared kept = record {
-  more = rw slots (MarksMore-none (event_part event) old.slots.items);
+  more = rw slots (MarksMore-none (event_part event) old.slots);
   room = room;
   written = λ found queue is entry below.
       absurd (cc (sym cleared ∙ ap (λ (some : SlotWrite). some.entry) (same_Some write found (sym writes ∙ is)) ∙ entry));
@@ -350,7 +350,7 @@ NotesEvent-cleared event write old new writes none most slots room cleared kept 
 -- The table of a component has as many slots as there are, if it has any.
 pub length-table : (parts : List Part) (injecting : Injecting) → AreInjecting parts injecting
     → (number : ℕ) (part : Part) → slice_get parts number ≡ Some part → 0 < length (entries_of part)
-    → length (entries_of part) ≡ length injecting.slots.items
+    → length (entries_of part) ≡ length injecting.slots
 length-table parts injecting are number part at some =
     let size = ap length (table_at-parts parts number part at) in
     sym size ∙ are.tables.size number (omega (arith, some, size))
@@ -359,7 +359,7 @@ length-table parts injecting are number part at some =
 pub length-sends : (cycle : ℕ) (parts : List Part) (injecting : Injecting)
     → AreInjecting parts injecting → (number : ℕ) (part : Part)
     → slice_get parts number ≡ Some part → sends_own cycle part ≡ true
-    → length (entries_of part) ≡ length injecting.slots.items
+    → length (entries_of part) ≡ length injecting.slots
 length-sends cycle parts injecting are number part at sends =
     let entry = entry-sends cycle part sends in
     let within = entry-within (entries_of part) (cycle % length (entries_of part)) entry.0 entry.1 in
@@ -368,20 +368,20 @@ length-sends cycle parts injecting are number part at sends =
 -- And it is marked.
 pub AreInjecting-sends : (cycle : ℕ) (parts : List Part) (injecting : Injecting)
     → AreInjecting parts injecting
-    → AreSendersMarked cycle parts (marks_at injecting.slots.items (cycle % length injecting.slots.items))
+    → AreSendersMarked cycle parts (marks_at injecting.slots (cycle % length injecting.slots))
 AreInjecting-sends cycle parts injecting are number part at sends =
     let entry = entry-sends cycle part sends in
     let same = length-sends cycle parts injecting are number part at sends in
-    are.marked number (cycle % length injecting.slots.items) entry.0
-    (sym (entry_at-parts parts number (cycle % length injecting.slots.items))
-    ∙ ap (λ (list : List (Option ℕ)). slice_index_or list (cycle % length injecting.slots.items) None)
+    are.marked number (cycle % length injecting.slots) entry.0
+    (sym (entry_at-parts parts number (cycle % length injecting.slots))
+    ∙ ap (λ (list : List (Option ℕ)). slice_index_or list (cycle % length injecting.slots) None)
     (table_at-parts parts number part at)
     ∙ ap (λ n. slice_index_or (entries_of part) (cycle % n) None) (sym same) ∙ entry.1)
     (ap (λ (found : Option Part). is_some (emitted (queue_in entry.0 found))) at ∙ entry.2)
 
 -- A marked number is that of a component.
 pub AreInjecting-below : (parts : List Part) (injecting : Injecting) → AreInjecting parts injecting
-    → (number slot : ℕ) → bit_of (marks_at injecting.slots.items slot) number ≡ 1
+    → (number slot : ℕ) → bit_of (marks_at injecting.slots slot) number ≡ 1
     → number < length parts
 AreInjecting-below parts injecting are number slot bit =
     let below = are.tables.below number slot bit in

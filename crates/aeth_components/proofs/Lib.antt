@@ -46,6 +46,7 @@ pub mod SeenPhases
 mod SendingLemmas
 pub mod SkipLemmas
 mod SlotLemmas
+mod SlotMarkLemmas
 mod SwitchingLemmas
 mod TableLemmas
 mod TakenLemmas

@@ -1,9 +1,8 @@
 -- What keeps each interface marked in the slots in which it may send: a queue is woken once it has changed.
-use Rattle.std.proofs.Common.{ℕ, ◌≡◌, ◌≢◌, ◌<◌, ◌%◌, ◌∙◌, refl, sym, ap, arith, inl, inr, List, []}
+use Rattle.std.proofs.Common.{ℕ, ◌≡◌, ◌<◌, ◌%◌, ◌∙◌, refl, sym, ap, arith, inl, inr, List, []}
 use Rattle.std.proofs.Common.{false, length, map, Option, Some, None, slice_get, true, get_or}
-use Rattle.std.proofs.Common.{is_some, length-set, set, ◌⊎◌, option_map, get_or-set_other}
-use Rattle.std.proofs.Common.{get_or-set_same}
-use Rattle.std.proofs.lemmas.{Bool.cases_eq, List.get_or_default, List.length-map, Option.same_Some}
+use Rattle.std.proofs.Common.{is_some, set, ◌⊎◌, option_map, get_or-set_other}
+use Rattle.std.proofs.lemmas.{Bool.cases_eq, List.length-map, Option.same_Some}
 use Rattle.std.proofs.lemmas.{Option.slice_get-get_or, Option.slice_get_within}
 use Rattle.std.specs.List.{slice_index_or}
 use Rattle.aeth_base.proofs.Lists.{map-at, slice_get-slice_set_other, slice_get-slice_set_same}
@@ -19,11 +18,11 @@ use Rattle.aeth_router.specs.declared.part.Part.TheVariants.{Interface, Router, 
 use Rattle.aeth_components.specs.{declared.injecting.Injecting.Injecting}
 use Rattle.aeth_components.specs.{declared.lane.ChannelEnd.ChannelEnd, Changes.at_end}
 use Rattle.aeth_components.specs.{Changes.on_interface, Changes.with_part, Injecting.AreInjecting}
-use Rattle.aeth_components.specs.{Injecting.MarksMore, Injecting.WakesQueue, Injecting.WakesTold}
-use Rattle.aeth_components.specs.{Injecting.entries_of, Injecting.marks_at, Injecting.may_send}
-use Rattle.aeth_components.specs.{Injecting.place_of_entry, Injecting.queue_told, Seen.landed}
-use Rattle.aeth_components.specs.{Switching.entry_in, Switching.entry_of, Turns.sends_own}
-use Rattle.aeth_components.specs.{View.queue_in, View.queue_of}
+use Rattle.aeth_components.specs.{Injecting.WakesQueue, Injecting.WakesTold, Injecting.entries_of}
+use Rattle.aeth_components.specs.{Injecting.may_send, Injecting.place_of_entry}
+use Rattle.aeth_components.specs.{Injecting.queue_told, SlotMarks.MarksLess, SlotMarks.MarksMore}
+use Rattle.aeth_components.specs.{SlotMarks.marks_at, Seen.landed, Switching.entry_in}
+use Rattle.aeth_components.specs.{Switching.entry_of, Turns.sends_own, View.queue_in, View.queue_of}
 use Rattle.aeth_components.proofs.AloneLemmas.{queue_of-at_end_other, slice_get-with_part_other}
 use Rattle.aeth_components.proofs.AloneLemmas.{slice_get-with_part_same}
 use Rattle.aeth_components.proofs.InjectingLemmas.{HasPlaces-moved, entry-below, entry-noted}
@@ -34,68 +33,13 @@ use Rattle.aeth_components.proofs.OwnLemmas.{after-sends, own_driven}
 use Rattle.aeth_components.proofs.PartLemmas.{set-with_part, views-with_part}
 use Rattle.aeth_components.proofs.TableLemmas.{entries-changed}
 
--- One has come in one slot.
-pub MarksMore-set : (number slot : ℕ) (old : List (List ℕ)) (marks new : List ℕ) → slot < length old
-    → marks ≡ get_or old slot marks → room_of new ≡ room_of marks → bit_of new number ≡ 1
-    → ((other : ℕ) → other ≢ number → bit_of new other ≡ bit_of marks other)
-    → MarksMore number old (set old slot new)
-MarksMore-set number slot old marks new within read room here away =
-    let before : marks ≡ marks_at old slot = read ∙ get_or_default old slot marks [] within in
-    let now : marks_at (set old slot new) slot ≡ new = get_or-set_same old slot new [] within in
-    let own : (other at : ℕ) → at ≡ slot
-    → bit_of (marks_at (set old slot new) at) other ≡ bit_of new other =
-    λ other at same.
-    ap (λ n. bit_of (marks_at (set old slot new) n) other) same ∙ ap (λ (marks : List ℕ). bit_of marks other) now in
-    let was : (other at : ℕ) → at ≡ slot → bit_of (marks_at old at) other ≡ bit_of marks other =
-    λ other at same.
-    ap (λ n. bit_of (marks_at old n) other) same ∙ ap (λ (marks : List ℕ). bit_of marks other) (sym before) in
-    let apart : (other at : ℕ) → at ≢ slot
-    → bit_of (marks_at (set old slot new) at) other ≡ bit_of (marks_at old at) other =
-    λ other at away. ap (λ (marks : List ℕ). bit_of marks other) (get_or-set_other old slot at new [] away) in
-    record {
-      size = length-set old slot new;
-      room = λ at. elim (cases_eq at slot) [
-        | inl same ↦
-            ap (λ n. room_of (marks_at (set old slot new) n)) same ∙ ap room_of now ∙ room
-            ∙ ap room_of before ∙ ap (λ n. room_of (marks_at old n)) (sym same)
-        | inr away ↦ ap room_of (get_or-set_other old slot at new [] away)
-      ];
-      kept = λ other at bit. elim (cases_eq at slot) [
-        | inr away ↦ apart other at away ∙ bit
-        | inl same ↦ elim (cases_eq other number) [
-          | inl is ↦ own other at same ∙ ap (bit_of new) is ∙ here
-          | inr isnt ↦ own other at same ∙ away other isnt ∙ sym (was other at same) ∙ bit
-        ]
-      ];
-      below = λ other at bit. elim (cases_eq at slot) [
-        | inr away ↦ inl (sym (apart other at away) ∙ bit)
-        | inl same ↦ elim (cases_eq other number) [
-          | inl is ↦ inr is
-          | inr isnt ↦ inl (was other at same ∙ sym (away other isnt) ∙ sym (own other at same) ∙ bit)
-        ]
-      ];
-    }
-
--- More have come.
-pub MarksMore-more : {number : ℕ} {old now new : List (List ℕ)} → MarksMore number old now
-    → MarksMore number now new → MarksMore number old new
-MarksMore-more first second = record {
-  size = second.size ∙ first.size;
-  room = λ slot. second.room slot ∙ first.room slot;
-  kept = λ other slot bit. second.kept other slot (first.kept other slot bit);
-  below = λ other slot bit. elim (second.below other slot bit) [
-    | inl was ↦ first.below other slot was
-    | inr is ↦ inr is
-  ];
-}
-
 -- The queues that have something to send had it before, or their component is marked.
 pub AreInjecting-more : (number : ℕ) (parts now : List Part) (old new : Injecting)
-    → AreInjecting parts old → MarksMore number old.slots.items new.slots.items
+    → AreInjecting parts old → MarksMore number old.slots new.slots
     → new.entries ≡ old.entries → number < length parts
     → map entries_of now ≡ map entries_of parts
     → ((other slot queue : ℕ) → entry_of parts other slot ≡ Some queue → may_send now other queue ≡ true
-    → (may_send parts other queue ≡ true) ⊎ (bit_of (marks_at new.slots.items slot) other ≡ 1))
+    → (may_send parts other queue ≡ true) ⊎ (bit_of (marks_at new.slots slot) other ≡ 1))
     → AreInjecting now new
 AreInjecting-more number parts now old new are more entries within same sends = record {
   tables = rw same (record {
@@ -238,29 +182,22 @@ table_at-entry (TableRouter router) slot = refl
 table_at-entry (Stage stage) slot = refl
 
 -- An interface that sends nothing in a slot is marked there no more.
-pub AreInjecting-rested : (cycle slot number : ℕ) (part : Part) (parts : List Part) (old new : Injecting)
-    → AreInjecting parts old → slot ≡ cycle % length old.slots.items
+pub AreInjecting-rested : (cycle slot number : ℕ) (part : Part) (parts : List Part) (old : Injecting)
+    (slots : List (List ℕ)) → AreInjecting parts old → slot ≡ cycle % length old.slots
     → slice_get parts number ≡ Some part → sends_own cycle part ≡ false
-    → new.entries ≡ old.entries → length new.slots.items ≡ length old.slots.items
-    → ((at : ℕ) → room_of (marks_at new.slots.items at) ≡ room_of (marks_at old.slots.items at))
-    → ((other at : ℕ) → (other ≢ number) ⊎ (at ≢ slot)
-    → bit_of (marks_at new.slots.items at) other ≡ bit_of (marks_at old.slots.items at) other)
-    → ((other at : ℕ) → bit_of (marks_at new.slots.items at) other ≡ 1
-    → bit_of (marks_at old.slots.items at) other ≡ 1)
-    → AreInjecting parts new
-AreInjecting-rested cycle slot number part parts old new are is there mute entries size room away gone = record {
+    → MarksLess number slot old.slots slots → AreInjecting parts (record old { slots = slots })
+AreInjecting-rested cycle slot number part parts old slots are is there mute less = record {
   tables = record {
-    places = HasPlaces-moved (length (map entries_of parts)) old new are.tables.places size room (ap room_of entries);
-    size = λ other some. are.tables.size other some ∙ sym size;
-    entered = λ other at queue own.
-        ap (λ (masks : List ℕ). bit_of masks (place_of_entry other queue at)) entries
-        ∙ are.tables.entered other at queue own;
-    below = λ other at bit. are.tables.below other at (gone other at bit);
+    places = HasPlaces-moved (length (map entries_of parts)) old (record old { slots = slots })
+        are.tables.places less.size less.room refl;
+    size = λ other some. are.tables.size other some ∙ sym less.size;
+    entered = are.tables.entered;
+    below = λ other at bit. are.tables.below other at (less.gone other at bit);
   };
   marked = λ other at queue own may. elim (cases_eq other number) [
-    | inr apart ↦ away other at (inl apart) ∙ are.marked other at queue own may
+    | inr apart ↦ less.away other at (inl apart) ∙ are.marked other at queue own may
     | inl same ↦ elim (cases_eq at slot) [
-      | inr apart ↦ away other at (inr apart) ∙ are.marked other at queue own may
+      | inr apart ↦ less.away other at (inr apart) ∙ are.marked other at queue own may
       | inl here ↦
           let found = ap (slice_get parts) same ∙ there in
           let entry = sym (table_at-entry part at) ∙ ap (entry_in at) (sym found) ∙ own in

@@ -3,15 +3,15 @@
 -- seen to send nothing in a slot. The next cycle in which an interface sends is found by these marks.
 --
 --   entries_of, table_at, entry_at     the slot tables of components, and one entry
---   marks_at     the marks of a slot
 --   place_of_entry, IsEntered     the mark of a queue's entry for a slot
 --   HasPlaces, AreEntered     that there are marks for all components, and for each entry
 --   may_send, AreInjecting     each interface is marked in the slots in which it may send
---   MarksMore, WakesQueue, queue_told, WakesTold, NotesEvent     what wakes a queue, and what an event changes of the marks
+--   WakesQueue, NotesEvent     what wakes a queue, and what an event changes of the marks
+--   queue_told, WakesTold     the queue to which a flit comes, and that it is woken
 --
 -- This project's own.
-use Rattle.std.proofs.Common.{◌≡◌, ◌<◌, ◌≤◌, ◌+◌, ◌*◌, ◌%◌, ◌^◌, ◌⊎◌, ℕ, List, [], length, All}
-use Rattle.std.proofs.Common.{Bool, Option, Some, None, is_some, map, option_map, true}
+use Rattle.std.proofs.Common.{◌≡◌, ◌<◌, ◌≤◌, ◌+◌, ◌*◌, ◌%◌, ◌^◌, ℕ, List, [], length, All, Bool}
+use Rattle.std.proofs.Common.{Option, Some, None, is_some, map, option_map, true}
 use Rattle.std.specs.List.{slice_index_or}
 use Rattle.aeth_base.specs.{Limits.max_slots, Marks.bit_of, Marks.room_of}
 use Rattle.aeth_clocked.specs.declared.flit.Flit.{Flit}
@@ -23,6 +23,7 @@ use Rattle.aeth_components.specs.declared.{event.Event.Event, injecting.Injectin
 use Rattle.aeth_components.specs.declared.{lane.ChannelEnd.ChannelEnd}
 use Rattle.aeth_components.specs.Events.{event_part}
 use Rattle.aeth_components.specs.Switching.{SlotWrite, Writes, entry_of, event_end, slot_write}
+use Rattle.aeth_components.specs.SlotMarks.{MarksMore, marks_at}
 use Rattle.aeth_components.specs.View.{queue_of}
 
 -- The slot table of an interface; a router or a stage has none.
@@ -39,10 +40,6 @@ table_at tables number = slice_index_or tables number []
 abbrev pub entry_at : List (List (Option ℕ)) → ℕ → ℕ → Option ℕ
 entry_at tables number slot = slice_index_or (table_at tables number) slot None
 
--- The marks of a slot; none where there is no such slot.
-abbrev pub marks_at : List (List ℕ) → ℕ → List ℕ
-marks_at slots slot = slice_index_or slots slot []
-
 -- The place of a queue's entry for a slot among the marks of entries.
 abbrev pub place_of_entry : ℕ → ℕ → ℕ → ℕ
 place_of_entry number queue slot =
@@ -55,9 +52,9 @@ IsEntered injecting number queue slot =
 
 -- There is a mark for the components below a count in each slot, and one for each of their entries.
 pub record HasPlaces (count : ℕ) (injecting : Injecting) : Type 0 where
-  pub some : 0 < length injecting.slots.items
-  pub most : length injecting.slots.items ≤ max_slots
-  pub room : All (λ marks. count < room_of marks) injecting.slots.items
+  pub some : 0 < length injecting.slots
+  pub most : length injecting.slots ≤ max_slots
+  pub room : All (λ marks. count < room_of marks) injecting.slots
   pub entries : max_slots * (queues_of_interface * count) < room_of injecting.entries
   pub few : count < 2 ^ 32
 
@@ -66,10 +63,10 @@ pub record HasPlaces (count : ℕ) (injecting : Injecting) : Type 0 where
 pub record AreEntered (tables : List (List (Option ℕ))) (injecting : Injecting) : Type 0 where
   pub places : HasPlaces (length tables) injecting
   pub size : (number : ℕ) → 0 < length (table_at tables number)
-      → length (table_at tables number) ≡ length injecting.slots.items
+      → length (table_at tables number) ≡ length injecting.slots
   pub entered : (number slot queue : ℕ) → entry_at tables number slot ≡ Some queue
       → IsEntered injecting number queue slot
-  pub below : (number slot : ℕ) → bit_of (marks_at injecting.slots.items slot) number ≡ 1
+  pub below : (number slot : ℕ) → bit_of (marks_at injecting.slots slot) number ≡ 1
       → number < length tables
 
 -- Whether a queue of one of the components has something to send.
@@ -80,23 +77,14 @@ may_send parts number queue = is_some (emitted (queue_of parts number queue))
 pub record AreInjecting (parts : List Part) (injecting : Injecting) : Type 0 where
   pub tables : AreEntered (map entries_of parts) injecting
   pub marked : (number slot queue : ℕ) → entry_of parts number slot ≡ Some queue
-      → may_send parts number queue ≡ true → bit_of (marks_at injecting.slots.items slot) number ≡ 1
-
--- Of the marks of slots none is gone, and those that have come are of one number.
-pub record MarksMore (number : ℕ) (old new : List (List ℕ)) : Type 0 where
-  pub size : length new ≡ length old
-  pub room : (slot : ℕ) → room_of (marks_at new slot) ≡ room_of (marks_at old slot)
-  pub kept : (other slot : ℕ) → bit_of (marks_at old slot) other ≡ 1
-      → bit_of (marks_at new slot) other ≡ 1
-  pub below : (other slot : ℕ) → bit_of (marks_at new slot) other ≡ 1
-      → (bit_of (marks_at old slot) other ≡ 1) ⊎ (other ≡ number)
+      → may_send parts number queue ≡ true → bit_of (marks_at injecting.slots slot) number ≡ 1
 
 -- A component is marked in each slot of one of its queues.
 pub record WakesQueue (number queue : ℕ) (old new : Injecting) : Type 0 where
-  pub more : MarksMore number old.slots.items new.slots.items
+  pub more : MarksMore number old.slots new.slots
   pub entries : new.entries ≡ old.entries
-  pub own : (slot : ℕ) → slot < length old.slots.items → IsEntered old number queue slot
-      → bit_of (marks_at new.slots.items slot) number ≡ 1
+  pub own : (slot : ℕ) → slot < length old.slots → IsEntered old number queue slot
+      → bit_of (marks_at new.slots slot) number ≡ 1
 
 -- The queue of a component to which a flit comes; none of a router or a stage.
 abbrev pub queue_told : Flit → Part → Option ℕ
@@ -113,15 +101,15 @@ WakesTold number (Some queue) old new = WakesQueue number queue old new
 -- The entry that an event writes is noted, and its component marked there. So it is in each slot of the queue that an
 -- event changes. Of other entries none is gone.
 pub record NotesEvent (event : Event) (old new : Injecting) : Type 0 where
-  pub more : MarksMore (event_part event) old.slots.items new.slots.items
+  pub more : MarksMore (event_part event) old.slots new.slots
   pub room : room_of new.entries ≡ room_of old.entries
   pub written : (write : SlotWrite) (queue : ℕ) → slot_write event ≡ Some write
-      → write.entry ≡ Some queue → write.slot < length old.slots.items
+      → write.entry ≡ Some queue → write.slot < length old.slots
       → IsEntered new write.ni.0 queue write.slot
-      × (bit_of (marks_at new.slots.items write.slot) write.ni.0 ≡ 1)
+      × (bit_of (marks_at new.slots write.slot) write.ni.0 ≡ 1)
   pub woken : (end : ChannelEnd) (slot : ℕ) → event_end event ≡ Some end
-      → slot < length old.slots.items → IsEntered old end.ni.0 end.queue slot
-      → bit_of (marks_at new.slots.items slot) end.ni.0 ≡ 1
-  pub kept : (number slot queue : ℕ) → slot < length old.slots.items
+      → slot < length old.slots → IsEntered old end.ni.0 end.queue slot
+      → bit_of (marks_at new.slots slot) end.ni.0 ≡ 1
+  pub kept : (number slot queue : ℕ) → slot < length old.slots
       → (Writes event number slot → ⊥) → IsEntered old number queue slot
       → IsEntered new number queue slot

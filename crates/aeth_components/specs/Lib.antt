@@ -22,6 +22,7 @@ pub mod Ready
 pub mod Replacing
 pub mod Seen
 pub mod Sending
+pub mod SlotMarks
 pub mod Switching
 pub mod Turns
 pub mod View

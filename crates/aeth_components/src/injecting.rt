@@ -9,8 +9,10 @@ ghost use Rattle.aeth_ni.specs.Writes.{addressee};
 ghost use Rattle.aeth_components.specs.Events.{event_part};
 ghost use Rattle.aeth_components.specs.Frames.{IsWired, frame_of};
 ghost use Rattle.aeth_components.specs.Handing.{HasWaitingPlaces, Wakes};
-ghost use Rattle.aeth_components.specs.Injecting.{AreInjecting, HasPlaces, IsEntered, MarksMore};
-ghost use Rattle.aeth_components.specs.Injecting.{NotesEvent, WakesQueue, WakesTold, marks_at};
+ghost use Rattle.aeth_components.specs.Injecting.{AreInjecting, HasPlaces, IsEntered};
+ghost use Rattle.aeth_components.specs.SlotMarks.{MarksMore};
+ghost use Rattle.aeth_components.specs.Injecting.{NotesEvent, WakesQueue, WakesTold};
+ghost use Rattle.aeth_components.specs.SlotMarks.{marks_at};
 ghost use Rattle.aeth_components.specs.Injecting.{place_of_entry};
 ghost use Rattle.aeth_components.specs.Seen.{interfaces_driven};
 ghost use Rattle.aeth_components.specs.Sending.{Injects, IsSending};
@@ -20,6 +22,7 @@ ghost use Rattle.aeth_components.specs.declared.event.Event.TheVariants.{Change}
 use crate::event::Event;
 use crate::handing::Handing;
 use crate::parts::sends_in;
+use crate::slot_marks::SlotMarks;
 use aeth_base::{Marks, NoMemory, Steps};
 use aeth_clocked::{Clocked, Wires};
 use aeth_ni::{QUEUES_OF_INTERFACE, Write};
@@ -34,7 +37,7 @@ const MOST_SLOTS: usize = 128;
 // the slots that have its entry.
 #[derive(Drop)]
 pub(crate) struct Injecting {
-    pub slots: Vec<Marks>,
+    pub slots: SlotMarks,
     pub entries: Marks,
 }
 
@@ -44,36 +47,24 @@ impl Injecting {
     pub(crate) fn none(alloc: Global, slots: u32, parts: u32) -> Result<Injecting, NoMemory>
         requires some { 0 < slots }
         requires most { slots ≤ max_slots }
-        ensures size { IfOk result (λ made. length made.slots.items ≡ slots) }
+        ensures size { IfOk result (λ made. length made.slots ≡ slots) }
         ensures places { IfOk result (HasPlaces parts) }
         ensures unmarked { IfOk result (λ made. (slot number : ℕ)
-            → bit_of (marks_at made.slots.items slot) number ≡ 0) }
+            → bit_of (marks_at made.slots slot) number ≡ 0) }
     {
         let entries = parts as usize * QUEUES_OF_INTERFACE * MOST_SLOTS;
-        let mut marks = Vec::with_capacity(alloc, slots as usize)?;
-        for _ in 0..slots {
-            marks.push(Marks::none(alloc, parts as usize)?)?;
-        }
         Ok(Injecting {
-            slots: marks,
+            slots: SlotMarks::none(alloc, slots, parts)?,
             entries: Marks::none(alloc, entries)?,
         })
     }
 
     // The slot of a cycle.
     pub(crate) fn slot(&self, cycle: u32) -> usize
-        requires { 0 < length self.now.slots.items }
-        ensures { result ≡ cycle % length self.now.slots.items }
+        requires { 0 < length self.now.slots }
+        ensures { result ≡ cycle % length self.now.slots }
     {
         cycle as usize % self.slots.len()
-    }
-
-    // Marks of those in a slot.
-    pub(crate) fn at(&self, slot: usize) -> &Marks
-        requires { slot < length self.now.slots.items }
-        ensures { result.now ≡ marks_at self.now.slots.items slot }
-    {
-        &self.slots[slot]
     }
 
     // Notes what an event enters in a table, or takes out of one, and wakes the queue that it changes.
@@ -109,7 +100,7 @@ impl Injecting {
         let end = first + self.slots.len();
         let mut place = self.entries.next(first, end);
         'places: while place < end {
-            self.slots[place - first].mark(number);
+            self.slots.mark(place - first, number);
             place = self.entries.next(place + 1, end);
         }
     }
@@ -124,37 +115,20 @@ impl Injecting {
         }
     }
 
-    // An interface is seen to send nothing in a slot.
-    fn rest(&mut self, number: usize, slot: usize)
-        requires slot { slot < length self.old.slots.items }
-        requires number { All (λ marks. number < room_of marks) self.old.slots.items }
-        ensures entries { self.new.entries ≡ self.old.entries }
-        ensures size { length self.new.slots.items ≡ length self.old.slots.items }
-        ensures room { (other : ℕ) → room_of (marks_at self.new.slots.items other)
-            ≡ room_of (marks_at self.old.slots.items other) }
-        ensures away { (other at : ℕ) → (other ≢ number) ⊎ (at ≢ slot)
-            → bit_of (marks_at self.new.slots.items at) other
-            ≡ bit_of (marks_at self.old.slots.items at) other }
-        ensures gone { (other at : ℕ) → bit_of (marks_at self.new.slots.items at) other ≡ 1
-            → bit_of (marks_at self.old.slots.items at) other ≡ 1 }
-    {
-        self.slots[slot].unmark(number);
-    }
-
     // A queue of an interface has the entry for a slot, and may send in it.
     fn enter(&mut self, number: usize, queue: u8, slot: usize)
         requires { HasPlaces (number + 1) self.old }
-        ensures more { MarksMore number self.old.slots.items self.new.slots.items }
+        ensures more { MarksMore number self.old.slots self.new.slots }
         ensures room { room_of self.new.entries ≡ room_of self.old.entries }
-        ensures own { slot < length self.old.slots.items → IsEntered self.new number queue slot }
-        ensures marked { slot < length self.old.slots.items
-            → bit_of (marks_at self.new.slots.items slot) number ≡ 1 }
+        ensures own { slot < length self.old.slots → IsEntered self.new number queue slot }
+        ensures marked { slot < length self.old.slots
+            → bit_of (marks_at self.new.slots slot) number ≡ 1 }
         ensures kept { (place : ℕ) → bit_of self.old.entries place ≡ 1
             → bit_of self.new.entries place ≡ 1 }
     {
         if slot < self.slots.len() {
             self.entries.mark(place_of(number, queue, slot));
-            self.slots[slot].mark(number);
+            self.slots.mark(slot, number);
         }
     }
 
@@ -206,7 +180,7 @@ pub(crate) fn inject<L: Ledger>(
 {
     let slot = injecting.slot(cycle);
     let end = parts.len();
-    let mut number = injecting.at(slot).next(0, end);
+    let mut number = injecting.slots.next(slot, 0, end);
     'numbers: while number < end {
         if sends_in(&parts[number], slot) {
             let part = &mut parts[number];
@@ -215,8 +189,8 @@ pub(crate) fn inject<L: Ledger>(
             steps.tick();
         }
         if !sends_in(&parts[number], slot) {
-            injecting.rest(number, slot);
+            injecting.slots.unmark(slot, number);
         }
-        number = injecting.at(slot).next(number + 1, end);
+        number = injecting.slots.next(slot, number + 1, end);
     }
 }

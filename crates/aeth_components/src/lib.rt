@@ -23,6 +23,7 @@ mod phases;
 mod queues;
 mod replacing;
 mod sending;
+mod slot_marks;
 mod turns;
 
 pub use components::Components;

@@ -10,7 +10,7 @@ use Rattle.aeth_components.proofs.InjectLemmas.{InjectedTo-until, InjectedTo-wir
 use Rattle.aeth_components.proofs.InjectLemmas.{InjectedTo-woken}
 use Rattle.aeth_components.proofs.OwnLemmas.{output-below}
 use Rattle.aeth_components.proofs.WokenLemmas.{AreInjecting-driven, AreInjecting-rested}
-use Rattle.aeth_components.proofs.injecting.inject.Goals.{After-at-in-numbers}
+use Rattle.aeth_components.proofs.injecting.inject.Goals.{After-next-number-in-numbers}
 use Rattle.aeth_components.proofs.injecting.inject.Goals.{After-index-parts-number}
 use Rattle.aeth_components.proofs.injecting.inject.Goals.{After-index-parts-number-in-numbers}
 use Rattle.aeth_components.proofs.injecting.inject.Goals.{After-sends_in, else-not-sends_in}
@@ -28,7 +28,7 @@ numbers-init g c =
           (InjectedTo-first c.args.cycle c.args.parts.now c.args.wires.now c.args.handing.now
           c.args.steps.now c.requires.waiting)
           c.args.injecting.now c.requires.injecting c.slot-slot.result c.next-number.result
-          c.slot-slot.ensures next.from (rw c.at.ensures at next.none);
+          c.slot-slot.ensures next.from next.none;
       within = next.end;
       injecting = c.requires.injecting;
       size = refl;
@@ -46,7 +46,7 @@ there : (g : given.Over) (c : goal.After-index-parts-number g) (default : Part)
 there g c default = slice_get-get_or c.numbers.parts c.numbers.number default (within g c)
 
 own : (g : given.Over) (c : goal.After-index-parts-number g)
-    → c.slot-slot.result ≡ c.args.cycle % length c.numbers.injecting.slots.items
+    → c.slot-slot.result ≡ c.args.cycle % length c.numbers.injecting.slots
 own g c = c.slot-slot.ensures ∙ ap (λ n. c.args.cycle % n) (sym c.numbers.invariant.size)
 
 pub sends_in-requires : goal.sends_in-requires
@@ -142,35 +142,34 @@ sends_in-requires-in-numbers g c =
     (own g index) c.numbers.number _ (again g after)
 
 -- One that sends nothing more is marked no more.
-rested : (g : given.Over) (c : goal.After-at-in-numbers g)
+rested : (g : given.Over) (c : goal.After-next-number-in-numbers g)
     → AreInjecting c.if-sends_in.parts c.if-not-sends_in.injecting
 rested g c =
-    let after = (goal.at-After-at-in-numbers g c).After-index-parts-number-in-numbers in
-    let index = (goal.at-After-at-in-numbers g c).After-index-parts-number in
+    let after = (goal.at-After-next-number-in-numbers g c).After-index-parts-number-in-numbers in
+    let index = (goal.at-After-next-number-in-numbers g c).After-index-parts-number in
     let held = held g after in
     let again = again g after in
     let told = c.sends_in-in-numbers.ensures c.args.cycle (slot-own c.args.cycle c.slot-slot.result
     c.if-sends_in.parts c.numbers.injecting held (own g index) c.numbers.number _ again) in
     elim c.if-not-sends_in.branch [
       | then-not-sends_in w ↦
-          let rest = w.rest.ensures in
           rw w.injecting-is (AreInjecting-rested c.args.cycle c.slot-slot.result c.numbers.number _
-          c.if-sends_in.parts c.numbers.injecting w.rest.new.self held (own g index) again
-          (sym told ∙ w.if-not-sends_in.true) rest.entries rest.size rest.room rest.away rest.gone)
+          c.if-sends_in.parts c.numbers.injecting w.unmark.new.self held (own g index) again
+          (sym told ∙ w.if-not-sends_in.true) w.unmark.ensures)
       | else-not-sends_in w ↦ rw w.injecting-is held
     ]
 
-sized : (g : given.Over) (c : goal.After-at-in-numbers g)
-    → length c.if-not-sends_in.injecting.slots.items ≡ length c.args.injecting.now.slots.items
+sized : (g : given.Over) (c : goal.After-next-number-in-numbers g)
+    → length c.if-not-sends_in.injecting.slots ≡ length c.args.injecting.now.slots
 sized g c = elim c.if-not-sends_in.branch [
-  | then-not-sends_in w ↦ rw w.injecting-is (w.rest.ensures.size ∙ c.numbers.invariant.size)
+  | then-not-sends_in w ↦ rw w.injecting-is (w.unmark.ensures.size ∙ c.numbers.invariant.size)
   | else-not-sends_in w ↦ rw w.injecting-is c.numbers.invariant.size
 ]
 
 -- One more, and none up to the next that is marked sends.
 pub numbers-preserved : goal.numbers-preserved
 numbers-preserved g c =
-    let at = (goal.at.numbers-preserved g c).After-at-in-numbers in
+    let at = (goal.at.numbers-preserved g c).After-next-number-in-numbers in
     let after = (goal.at.numbers-preserved g c).After-index-parts-number-in-numbers in
     let next = c.next-number-in-numbers.ensures in
     let injecting = rested g at in
@@ -178,8 +177,7 @@ numbers-preserved g c =
     record {
       injected = InjectedTo-passed (stepped g after) c.if-not-sends_in.injecting injecting
           c.slot-slot.result c.next-number-in-numbers.result
-          (c.slot-slot.ensures ∙ ap (λ n. c.args.cycle % n) (sym size)) next.from
-          (rw c.at-in-numbers.ensures at next.none);
+          (c.slot-slot.ensures ∙ ap (λ n. c.args.cycle % n) (sym size)) next.from next.none;
       within = next.end;
       injecting = injecting;
       size = size;

@@ -9,7 +9,7 @@ invariant-numbers g l = record {
       l.handing l.steps;
   within : l.number ≤ length l.fn.parts;
   injecting : AreInjecting l.parts l.injecting;
-  size : length l.injecting.slots.items ≡ length l.fn.injecting.slots.items;
+  size : length l.injecting.slots ≡ length l.fn.injecting.slots;
 }
 
 abbrev pub decreases-numbers : goal.decreases-numbers

@@ -1,17 +1,17 @@
 use Rattle.std.proofs.Common.{◌≡◌, ◌≤◌, ◌<◌, ◌+◌, ◌-◌, ℕ}
 use Rattle.aeth_base.specs.Marks.{bit_of}
-use Rattle.aeth_components.specs.Injecting.{IsEntered, MarksMore, marks_at}
+use Rattle.aeth_components.specs.{Injecting.IsEntered, SlotMarks.MarksMore, SlotMarks.marks_at}
 use Rattle.aeth_components.proofs.injecting.Injecting.wake.Given as goal
 
 -- The slots of the queue so far are marked.
 abbrev pub invariant-places : goal.invariant-places
 invariant-places l = record {
   entries : l.self.entries ≡ l.fn.self.entries;
-  more : MarksMore l.number l.fn.self.slots.items l.self.slots.items;
+  more : MarksMore l.number l.fn.self.slots l.self.slots;
   least : l.first ≤ l.place;
   most : l.place ≤ l.end;
   own : (slot : ℕ) → l.first + slot < l.place → IsEntered l.fn.self l.number l.queue slot
-      → bit_of (marks_at l.self.slots.items slot) l.number ≡ 1;
+      → bit_of (marks_at l.self.slots slot) l.number ≡ 1;
 }
 
 abbrev pub decreases-places : goal.decreases-places
