@@ -3,7 +3,7 @@ ghost use Rattle.aeth_accepted.specs.Inputs.{AreAccepted};
 ghost use Rattle.aeth_group.specs.Members.{groups_of};
 ghost use Rattle.aeth_machine.specs.RunInputs.{inputs_of};
 ghost use Rattle.aeth_report.specs.Regular.{IsRegular};
-ghost use Rattle.std.specs.Prelude.{◌≡◌, ◌≤◌, IfOk};
+ghost use Rattle.std.specs.Prelude.{◌≡◌, ◌≤◌, ◌<◌, IfOk};
 
 use crate::machine::Machine;
 use crate::traces::Traces;
@@ -14,24 +14,47 @@ use aeth_report::SimLog;
 use std::alloc::Global;
 
 /// The log of accepted inputs, once a machine has played them. Its components take their turns in the
-/// order that begins with this turn.
+/// order that begins with this turn. The traces are let go once the machine is made, so that the run and its
+/// log have their memory.
 pub fn played<M: Machine>(
     alloc: Global,
     design: &Design,
     planned: &Planned,
-    traces: &Traces,
+    traces: Traces,
     cycles: u32,
     turn: u32,
 ) -> Result<SimLog, NoMemory>
     requires groups { planned.now.groups ≡ groups_of design.now.app }
-    requires accepted { AreAccepted (inputs_of design.now planned.now.plan traces.now cycles) }
+    requires accepted { AreAccepted (inputs_of design.now planned.now.plan traces cycles) }
     requires least { 1 ≤ cycles }
     ensures log { IfOk result
-        (λ log. log ≡ M.outcome (inputs_of design.now planned.now.plan traces.now cycles)) }
+        (λ log. log ≡ M.outcome (inputs_of design.now planned.now.plan traces cycles)) }
     ensures regular { IfOk result (IsRegular design.now.app) }
 {
     M::regular();
-    let mut machine = M::make(
+    let mut machine = made::<M>(alloc, design, planned, traces, cycles)?;
+    let order = Order::rotation(alloc, machine.components(), turn)?;
+    machine.play(&order);
+    Ok(machine.result())
+}
+
+// The machine of accepted inputs. The traces end with the call.
+fn made<M: Machine>(
+    alloc: Global,
+    design: &Design,
+    planned: &Planned,
+    traces: Traces,
+    cycles: u32,
+) -> Result<M, NoMemory>
+    requires groups { planned.now.groups ≡ groups_of design.now.app }
+    requires accepted { AreAccepted (inputs_of design.now planned.now.plan traces cycles) }
+    requires least { 1 ≤ cycles }
+    ensures plays { IfOk result (λ machine.
+        M.plays machine ≡ M.outcome (inputs_of design.now planned.now.plan traces cycles)) }
+    ensures left { IfOk result (λ machine. M.left machine ≡ cycles) }
+    ensures count { IfOk result (λ machine. 0 < M.count machine) }
+{
+    M::make(
         alloc,
         &design.chip,
         &design.app,
@@ -41,8 +64,5 @@ pub fn played<M: Machine>(
         &traces.receivers,
         &traces.switches,
         cycles,
-    )?;
-    let order = Order::rotation(alloc, machine.components(), turn)?;
-    machine.play(&order);
-    Ok(machine.result())
+    )
 }

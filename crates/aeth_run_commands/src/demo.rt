@@ -93,7 +93,7 @@ fn traced_answer<M: Machine>(
         (traced_demo M.outcome n texts.now design.now planned.now.plan) result }
 {
     let traces = traces_in(alloc, texts, design, planned)?;
-    ended(summed_up::<M>(alloc, n, design, planned, &traces))
+    ended(summed_up::<M>(alloc, n, design, planned, traces))
 }
 
 /// The chip and the application of the texts.
@@ -179,13 +179,13 @@ fn summed_up<M: Machine>(
     n: u32,
     design: &Design,
     planned: &Planned,
-    traces: &Traces,
+    traces: Traces,
 ) -> Result<Answer, NoMemory>
     requires groups { planned.now.groups ≡ groups_of design.now.app }
     requires accepted { AreAccepted
-        (inputs_of design.now planned.now.plan traces.now demo_cycles) }
+        (inputs_of design.now planned.now.plan traces demo_cycles) }
     ensures { IfOk result (λ answer. answer ≡ summary_job M.outcome n
-        (inputs_of design.now planned.now.plan traces.now demo_cycles)) }
+        (inputs_of design.now planned.now.plan traces demo_cycles)) }
 {
     let log = played::<M>(alloc, design, planned, traces, DEMO_CYCLES, TURN)?;
     Ok(Answer::done(summary_line(alloc, n, &planned.plan, &log)?))

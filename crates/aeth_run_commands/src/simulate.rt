@@ -4,6 +4,7 @@ ghost use Rattle.aeth_accepted.specs.Inputs.{AreAccepted};
 ghost use Rattle.aeth_answers.specs.Places.{files_of};
 ghost use Rattle.aeth_answers.specs.Stop.{Answers};
 ghost use Rattle.aeth_group.specs.Members.{groups_of};
+ghost use Rattle.aeth_machine.specs.RunInputs.{inputs_of};
 ghost use Rattle.aeth_run_commands.specs.Simulate.{HasCycles, simulate_task, simulated_run};
 ghost use Rattle.aeth_run_commands.specs.Simulate.{simulation_job, turn_of};
 ghost use Rattle.aeth_run_commands.specs.TracedDesigns.{seen_traced, traced_inputs};
@@ -13,9 +14,10 @@ use crate::traced_designs::{TracedDesign, files_named, read_traced};
 use aeth_answers::{Answer, Stop, ended, number_in};
 use aeth_base::{MAX_CYCLES, NoMemory};
 use aeth_io::Shelf;
-use aeth_machine::{Machine, played};
+use aeth_machine::{Machine, Traces, played};
+use aeth_plan::{Design, Planned};
 use aeth_report::sim_text;
-use aeth_run_files::RunFiles;
+use aeth_run_files::{Run, RunFiles};
 use std::alloc::Global;
 
 /// The greatest turn that a command asks for.
@@ -87,23 +89,42 @@ pub fn answer<M: Machine, H: Shelf>(
         (simulate_task M.outcome run.now.files run.now.cycles) result }
 {
     let one = read_traced(alloc, &run.files, shelf)?;
-    ended(printed::<M>(alloc, &one, run.cycles, run.turn))
+    ended(printed_of::<M>(alloc, one, run.cycles, run.turn))
+}
+
+/// The text of the log of a run that was read. Its traces are let go before the text is made.
+fn printed_of<M: Machine>(
+    alloc: Global,
+    one: TracedDesign,
+    cycles: u32,
+    turn: u32,
+) -> Result<Answer, NoMemory>
+    requires groups { one.run.planned.groups ≡ groups_of one.design.app }
+    requires accepted { AreAccepted (traced_inputs (seen_traced one) cycles) }
+    requires least { 1 ≤ cycles }
+    ensures { IfOk result (λ answer. answer
+        ≡ simulation_job M.outcome (traced_inputs (seen_traced one) cycles)) }
+{
+    let TracedDesign { design, run } = one;
+    let Run { planned, traces } = run;
+    printed::<M>(alloc, &design, &planned, traces, cycles, turn)
 }
 
 /// The text of the log of accepted inputs.
 fn printed<M: Machine>(
     alloc: Global,
-    one: &TracedDesign,
+    design: &Design,
+    planned: &Planned,
+    traces: Traces,
     cycles: u32,
     turn: u32,
 ) -> Result<Answer, NoMemory>
-    requires groups { one.now.run.planned.groups ≡ groups_of one.now.design.app }
-    requires accepted { AreAccepted (traced_inputs (seen_traced one.now) cycles) }
+    requires groups { planned.now.groups ≡ groups_of design.now.app }
+    requires accepted { AreAccepted (inputs_of design.now planned.now.plan traces cycles) }
     requires least { 1 ≤ cycles }
     ensures { IfOk result (λ answer. answer
-        ≡ simulation_job M.outcome (traced_inputs (seen_traced one.now) cycles)) }
+        ≡ simulation_job M.outcome (inputs_of design.now planned.now.plan traces cycles)) }
 {
-    let TracedDesign { design, run } = one;
-    let log = played::<M>(alloc, design, &run.planned, &run.traces, cycles, turn)?;
+    let log = played::<M>(alloc, design, planned, traces, cycles, turn)?;
     Ok(Answer::done(sim_text(alloc, &log, &design.app)?))
 }

@@ -7,8 +7,8 @@ use Rattle.aeth_run_commands.specs.TracedDesigns.{seen_traced, traced_design, tr
 use Rattle.aeth_run_commands.proofs.simulate.answer.Goals as goal
 
 -- The inputs are accepted.
-pub printed-requires-clause-accepted : goal.printed-requires-clause-accepted
-printed-requires-clause-accepted g c =
+pub printed_of-requires-clause-accepted : goal.printed_of-requires-clause-accepted
+printed_of-requires-clause-accepted g c =
     c.in_ok-one.ensures.accepted c.args.run.now.cycles c.requires.1
 
 -- There is no design with an accepted plan, or there are no traces.
@@ -34,5 +34,5 @@ returns g c =
     seen_traced c.in_ok-one.one
     (λ one. ends (simulation_job outcome (traced_inputs one run.cycles)))
     c.ended.result c.in_ok-one.ensures.judges
-    (Answers-done now (text_of inputs.app (outcome inputs)) c.printed.result c.ended.result
-    c.printed.ensures c.ended.ensures)
+    (Answers-done now (text_of inputs.app (outcome inputs)) c.printed_of.result c.ended.result
+    c.printed_of.ensures c.ended.ensures)
