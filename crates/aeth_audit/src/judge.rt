@@ -14,6 +14,7 @@ use crate::places::Place;
 use crate::row::LinkRow;
 use crate::rules::{is_addressed, is_joined};
 use crate::sessions::has_open;
+use crate::starts::IndexedRows;
 use crate::table::Table;
 use crate::verdict::Audit;
 use aeth_base::Channel;
@@ -127,15 +128,11 @@ impl<'a> Judge<'a> {
             → result ≡ is_joined (design_for app self.now) self.now.cycles self.now.rows.now
             (reservation_of grant.now place.now.place) row.now }
     {
-        is_joined(
-            self.chip,
-            self.rows,
-            self.starts,
-            self.cycles,
-            &grant.path,
-            place.place,
-            row,
-        )
+        let log = IndexedRows {
+            rows: self.rows,
+            starts: self.starts,
+        };
+        is_joined(self.chip, &log, self.cycles, &grant.path, place.place, row)
     }
 
     // The least rule that the row breaks at a place, if it breaks one.

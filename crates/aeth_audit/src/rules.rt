@@ -3,15 +3,13 @@
 ghost use Rattle.std.specs.Prelude.{◌≡◌, ◌<◌, ◌≤◌, ◌^◌, ◌==◌, ◌&&◌, All, None, Some, false, length};
 ghost use Rattle.std.specs.Prelude.{if◌then◌else◌, true};
 ghost use Rattle.std.specs.List.Sorted.{IsPartitionPoint};
-ghost use Rattle.aeth_text.specs.Order.{Rises};
 ghost use Rattle.aeth_audit.specs.Audit.{are_blank, comes_from, goes_on, goes_to, has_after};
 ghost use Rattle.aeth_audit.specs.Audit.{has_before, is_addressed, row_on};
-ghost use Rattle.aeth_audit.specs.Limits.{max_link_rows};
-ghost use Rattle.aeth_audit.specs.LinkLog.{is_before, is_later};
-ghost use Rattle.aeth_audit.specs.Starts.{AreStarts};
+ghost use Rattle.aeth_audit.specs.LinkLog.{is_before};
+ghost use Rattle.aeth_audit.specs.Starts.{AreIndexed};
 
 use crate::row::LinkRow;
-use crate::starts::start_at;
+use crate::starts::{IndexedRows, start_at};
 use aeth_base::{LinkId, Path};
 use aeth_chip::Chip;
 use aeth_clocked::Flit;
@@ -51,19 +49,17 @@ fn goes_on(before: &Flit, after: &Flit) -> bool
 
 // How many rows come before those of a link in a cycle. Of the rows of this cycle it halves what is
 // left in each step.
-fn rows_before(rows: &[LinkRow], starts: &[u32], cycle: u64, link: LinkId) -> usize
-    requires rows { Rises is_later rows.now }
-    requires starts { AreStarts rows.now starts.now }
+fn rows_before(log: &IndexedRows, cycle: u64, link: LinkId) -> usize
+    requires log { AreIndexed log.now }
     requires soon { cycle < 2 ^ 63 }
-    requires few { length rows.now ≤ max_link_rows }
     ensures { IsPartitionPoint (λ row. is_before cycle link.0 row ≡ true)
-        (λ row. is_before cycle link.0 row ≡ false) rows.now result }
+        (λ row. is_before cycle link.0 row ≡ false) log.now.rows.now result }
 {
-    let mut low = start_at(rows, starts, cycle);
-    let mut high = start_at(rows, starts, cycle + 1);
+    let mut low = start_at(log, cycle);
+    let mut high = start_at(log, cycle + 1);
     'halves: while low < high {
         let middle = low + (high - low) / 2;
-        if rows[middle].link.0 < link.0 {
+        if log.rows[middle].link.0 < link.0 {
             low = middle + 1;
         } else {
             high = middle;
@@ -85,75 +81,53 @@ fn kept_on(row: &LinkRow, cycle: u64, link: LinkId) -> Option<LinkRow>
 }
 
 // The row of a link in a cycle.
-fn row_on(rows: &[LinkRow], starts: &[u32], cycle: u64, link: LinkId) -> Option<LinkRow>
-    requires rows { Rises is_later rows.now }
-    requires starts { AreStarts rows.now starts.now }
+fn row_on(log: &IndexedRows, cycle: u64, link: LinkId) -> Option<LinkRow>
+    requires log { AreIndexed log.now }
     requires soon { cycle < 2 ^ 63 }
-    requires few { length rows.now ≤ max_link_rows }
-    ensures { result ≡ row_on rows.now cycle link.0 }
+    ensures { result ≡ row_on log.now.rows.now cycle link.0 }
 {
-    match rows.get(rows_before(rows, starts, cycle, link)) {
+    match log.rows.get(rows_before(log, cycle, link)) {
         None => None,
         Some(row) => kept_on(row, cycle, link),
     }
 }
 
 // Whether a flit was on a link a delay before, from which that of the row goes on.
-fn comes_from(chip: &Chip, rows: &[LinkRow], starts: &[u32], row: &LinkRow, link: LinkId) -> bool
+fn comes_from(chip: &Chip, log: &IndexedRows, row: &LinkRow, link: LinkId) -> bool
     requires link { link.0 < length chip.now.links }
-    requires rows { Rises is_later rows.now }
-    requires starts { AreStarts rows.now starts.now }
-    requires few { length rows.now ≤ max_link_rows }
-    ensures { result ≡ comes_from chip.now.links rows.now row.now link }
+    requires log { AreIndexed log.now }
+    ensures { result ≡ comes_from chip.now.links log.now.rows.now row.now link }
 {
     let delay = chip.link(link).delay;
     let cycle = row.cycle.saturating_sub(delay) as u64;
-    match row_on(rows, starts, cycle, link) {
+    match row_on(log, cycle, link) {
         None => false,
         Some(before) => goes_on(&before.flit, &row.flit),
     }
 }
 
 // Whether a row at a place of a path has a row before it, unless the place is the first.
-fn has_before(
-    chip: &Chip,
-    rows: &[LinkRow],
-    starts: &[u32],
-    path: &Path,
-    place: u32,
-    row: &LinkRow,
-) -> bool
+fn has_before(chip: &Chip, log: &IndexedRows, path: &Path, place: u32, row: &LinkRow) -> bool
     requires links { All (λ link. link.0 < length chip.now.links) path.now }
     requires place { place < length path.now }
-    requires rows { Rises is_later rows.now }
-    requires starts { AreStarts rows.now starts.now }
-    requires few { length rows.now ≤ max_link_rows }
-    ensures { result ≡ has_before chip.now.links rows.now path.now place row.now }
+    requires log { AreIndexed log.now }
+    ensures { result ≡ has_before chip.now.links log.now.rows.now path.now place row.now }
 {
-    place == 0 || comes_from(chip, rows, starts, row, path.link(place - 1))
+    place == 0 || comes_from(chip, log, row, path.link(place - 1))
 }
 
 // Whether a flit is on a link a delay after, unless that is the end or later, which goes on from
 // that of the row.
-fn goes_to(
-    chip: &Chip,
-    rows: &[LinkRow],
-    starts: &[u32],
-    cycles: u32,
-    row: &LinkRow,
-    link: LinkId,
-) -> bool
+fn goes_to(chip: &Chip, log: &IndexedRows, cycles: u32, row: &LinkRow, link: LinkId) -> bool
     requires own { row.now.link.0 < length chip.now.links }
-    requires rows { Rises is_later rows.now }
-    requires starts { AreStarts rows.now starts.now }
-    requires few { length rows.now ≤ max_link_rows }
-    ensures { result ≡ goes_to chip.now.links rows.now cycles row.now link }
+    requires log { AreIndexed log.now }
+    ensures { result ≡ goes_to chip.now.links log.now.rows.now cycles row.now link }
 {
     let after = row.cycle as u64 + chip.link(row.link).delay as u64;
     if cycles as u64 <= after {
         return true;
     }
-    match row_on(rows, starts, after, link) {
+    match row_on(log, after, link) {
         None => false,
         Some(next) => goes_on(&row.flit, &next.flit),
     }
@@ -162,8 +136,7 @@ fn goes_to(
 // Whether a row at a place of a path has a row after it, unless the place is the last.
 fn has_after(
     chip: &Chip,
-    rows: &[LinkRow],
-    starts: &[u32],
+    log: &IndexedRows,
     cycles: u32,
     path: &Path,
     place: u32,
@@ -171,20 +144,17 @@ fn has_after(
 ) -> bool
     requires own { row.now.link.0 < length chip.now.links }
     requires place { place < length path.now }
-    requires rows { Rises is_later rows.now }
-    requires starts { AreStarts rows.now starts.now }
-    requires few { length rows.now ≤ max_link_rows }
-    ensures { result ≡ has_after chip.now.links rows.now cycles path.now place row.now }
+    requires log { AreIndexed log.now }
+    ensures { result ≡ has_after chip.now.links log.now.rows.now cycles path.now place row.now }
 {
     let links = path.len();
-    place + 1 >= links || goes_to(chip, rows, starts, cycles, row, path.link(place + 1))
+    place + 1 >= links || goes_to(chip, log, cycles, row, path.link(place + 1))
 }
 
 /// Whether a row at a place of a path has one before it and one after it.
 pub(crate) fn is_joined(
     chip: &Chip,
-    rows: &[LinkRow],
-    starts: &[u32],
+    log: &IndexedRows,
     cycles: u32,
     path: &Path,
     place: u32,
@@ -193,12 +163,9 @@ pub(crate) fn is_joined(
     requires own { row.now.link.0 < length chip.now.links }
     requires links { All (λ link. link.0 < length chip.now.links) path.now }
     requires place { place < length path.now }
-    requires rows { Rises is_later rows.now }
-    requires starts { AreStarts rows.now starts.now }
-    requires few { length rows.now ≤ max_link_rows }
-    ensures { result ≡ (has_before chip.now.links rows.now path.now place row.now
-        && has_after chip.now.links rows.now cycles path.now place row.now) }
+    requires log { AreIndexed log.now }
+    ensures { result ≡ (has_before chip.now.links log.now.rows.now path.now place row.now
+        && has_after chip.now.links log.now.rows.now cycles path.now place row.now) }
 {
-    has_before(chip, rows, starts, path, place, row)
-        && has_after(chip, rows, starts, cycles, path, place, row)
+    has_before(chip, log, path, place, row) && has_after(chip, log, cycles, path, place, row)
 }

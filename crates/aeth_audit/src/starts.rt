@@ -3,11 +3,18 @@ ghost use Rattle.std.specs.Prelude.{◌≡◌, ◌≤◌, ◌<◌, ◌^◌, IfOk
 ghost use Rattle.aeth_text.specs.Order.{Rises};
 ghost use Rattle.aeth_audit.specs.Limits.{max_link_rows};
 ghost use Rattle.aeth_audit.specs.LinkLog.{is_later};
-ghost use Rattle.aeth_audit.specs.Starts.{AreStarts, IsStart, PutsUntil};
+ghost use Rattle.aeth_audit.specs.Starts.{AreIndexed, AreStarts, IsStart, PutsUntil};
 
 use crate::row::LinkRow;
 use aeth_base::NoMemory;
 use std::alloc::Global;
+
+/// The rows of a log, and how many of them come before each cycle.
+#[derive(Clone, Copy)]
+pub(crate) struct IndexedRows<'a> {
+    pub rows: &'a [LinkRow],
+    pub starts: &'a [u32],
+}
 
 // How many cycles there are up to that of the last row.
 fn cycles_of(rows: &[LinkRow]) -> usize {
@@ -43,12 +50,12 @@ pub(crate) fn starts_of(alloc: Global, rows: &[LinkRow]) -> Result<Vec<u32>, NoM
 }
 
 /// How many rows come before a cycle.
-pub(crate) fn start_at(rows: &[LinkRow], starts: &[u32], cycle: u64) -> usize
-    requires { AreStarts rows.now starts.now }
-    ensures { IsStart rows.now cycle result }
+pub(crate) fn start_at(log: &IndexedRows, cycle: u64) -> usize
+    requires { AreIndexed log.now }
+    ensures { IsStart log.now.rows.now cycle result }
 {
-    match starts.get(cycle as usize) {
-        None => rows.len(),
+    match log.starts.get(cycle as usize) {
+        None => log.rows.len(),
         Some(start) => *start as usize,
     }
 }

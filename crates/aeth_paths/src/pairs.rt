@@ -263,6 +263,28 @@ fn task_of<'a, F>(
     }
 }
 
+// What a search finds over the pairs of a sender and a receiver.
+fn first_found<L: Ledger>(
+    task: &Task,
+    from: &[NiId],
+    to: &[NiId],
+    crowded: &[NiId],
+    steps: &mut Steps<L>,
+) -> Option<Found>
+    requires task { IsTask task.now }
+    ensures found { MatchOption result
+        ((other : Found) → IsCandidate task.now.book.now task.now.ask from.now to.now crowded.now
+        other → ⊥)
+        (IsFirst task.now.book.now task.now.prices.now task.now.ask from.now to.now crowded.now) }
+    ensures steps { steps.new ≤ steps.old + all_steps task.now.chip.now task.now.book.now
+        task.now.prices.now task.now.ask from.now to.now crowded.now }
+{
+    match try_senders(task, from, to, crowded, steps) {
+        None => None,
+        Some(best) => Some(found(task, &best.path)),
+    }
+}
+
 /// What `find` gives, with the steps counted: at most one for each allowed pair, open list of links
 /// and link that leaves the list's end. An interface that stands twice in a list counts once.
 pub fn find_counted<F: Fn(u32, u32) -> u32, L: Ledger>(
@@ -285,10 +307,7 @@ pub fn find_counted<F: Fn(u32, u32) -> u32, L: Ledger>(
         to.now crowded.now }
 {
     let task = task_of(chip, far, book, ask, cost);
-    match try_senders(&task, from, to, crowded, steps) {
-        None => Ok(None),
-        Some(best) => Ok(Some(found(&task, &best.path))),
-    }
+    Ok(first_found(&task, from, to, crowded, steps))
 }
 
 /// The first candidate over the pairs of a sender and a receiver, a pair of one crowded interface
@@ -309,30 +328,27 @@ pub fn find<F: Fn(u32, u32) -> u32>(
         ((other : Found) → IsCandidate book.now ask.now from.now to.now crowded.now other → ⊥)
         (IsFirst book.now cost.now ask.now from.now to.now crowded.now)) }
 {
-    find_from::<F, Brand>(chip, far, book, ask, from, to, crowded, cost, Blank::new(1))
+    let task = task_of(chip, far, book, ask, cost);
+    Ok(found_from::<Brand>(&task, from, to, crowded, Blank::new(1)))
 }
 
-// The same, with a counter of its own.
-fn find_from<F: Fn(u32, u32) -> u32, L: Ledger>(
-    chip: &Chip,
-    far: &Distances,
-    book: &Book,
-    ask: &Request,
+// What a search finds, with a counter of its own.
+fn found_from<L: Ledger>(
+    task: &Task,
     from: &[NiId],
     to: &[NiId],
     crowded: &[NiId],
-    cost: &Cost<F>,
     blank: Blank,
-) -> Result<Option<Found>, NoMemory>
+) -> Option<Found>
     requires name { blank.name ≡ L.name }
     requires parts { blank.parts ≡ L.parts }
     requires one { L.parts ≡ 1 }
-    requires far { far.now ≡ chip.now.links }
-    requires book { book.now.links ≡ chip.now.links }
-    ensures { IfOk result (λ found. MatchOption found
-        ((other : Found) → IsCandidate book.now ask.now from.now to.now crowded.now other → ⊥)
-        (IsFirst book.now cost.now ask.now from.now to.now crowded.now)) }
+    requires task { IsTask task.now }
+    ensures { MatchOption result
+        ((other : Found) → IsCandidate task.now.book.now task.now.ask from.now to.now crowded.now
+        other → ⊥)
+        (IsFirst task.now.book.now task.now.prices.now task.now.ask from.now to.now crowded.now) }
 {
     let mut steps = Steps::<L>::open(blank);
-    find_counted(chip, far, book, ask, from, to, crowded, cost, &mut steps)
+    first_found(task, from, to, crowded, &mut steps)
 }

@@ -3,14 +3,14 @@ use Rattle.aeth_audit.proofs.StartLemmas.{halves-before, halves-behind}
 use Rattle.aeth_audit.proofs.rules.rows_before.Goals as goal
 
 -- The row in the middle comes before the link.
-pub halves-preserved-then-rows-middle : goal.halves-preserved-then-rows-middle
-halves-preserved-then-rows-middle c =
+pub halves-preserved-then-log-middle : goal.halves-preserved-then-log-middle
+halves-preserved-then-log-middle c =
     let low = c.halves.low in
     let high = c.halves.high in
     let left = c.halves-test.true in
-    halves-before c.args.rows.now c.requires.rows c.args.cycle c.args.link.0 low high
+    halves-before c.args.log.now.rows.now c.requires.log.rise c.args.cycle c.args.link.0 low high
     (low + (high - low) / 2) _ c.halves.invariant (omega (arith, left)) (omega (arith, left))
-    c.if-rows-middle.true
+    c.if-log-middle.true
 
 -- Or it doesn't.
 pub halves-preserved : goal.halves-preserved
@@ -18,6 +18,6 @@ halves-preserved c =
     let low = c.halves.low in
     let high = c.halves.high in
     let left = c.halves-test.true in
-    halves-behind c.args.rows.now c.requires.rows c.args.cycle c.args.link.0 low high
+    halves-behind c.args.log.now.rows.now c.requires.log.rise c.args.cycle c.args.link.0 low high
     (low + (high - low) / 2) _ c.halves.invariant (omega (arith, left)) (omega (arith, left))
-    c.if-rows-middle.false
+    c.if-log-middle.false

@@ -1,5 +1,5 @@
 use Rattle.aeth_paths.proofs.pairs.find.Given as goal
 
 -- The ledger of the blank.
-abbrev pub ghosts-find_from : goal.ghosts-find_from
-ghosts-find_from g a = record { name = a.blank.name; parts = a.blank.parts }
+abbrev pub ghosts-found_from : goal.ghosts-found_from
+ghosts-found_from g a = record { name = a.blank.name; parts = a.blank.parts }

@@ -3,6 +3,14 @@ use Rattle.aeth_base.specs.declared.ids.LinkId.{LinkId}
 use Rattle.aeth_audit.{specs.Audit.has_after, specs.Audit.has_before, proofs.JudgeLemmas.own-path}
 use Rattle.aeth_audit.proofs.judge.Judge.is_joined.Goals as goal
 
+-- The rows and their numbers are those that rows are judged with.
+pub is_joined-requires-clause-log : goal.is_joined-requires-clause-log
+is_joined-requires-clause-log c = record {
+  rise = c.requires.judge.rows;
+  few = c.requires.judge.few;
+  starts = c.requires.judge.starts;
+}
+
 -- The path is that of the reservation.
 pub returns : goal.returns
 returns c = λ app switches of.
