@@ -8,11 +8,12 @@ use Rattle.aeth_base.specs.{declared.ids.Side.TheVariants.Back, declared.ids.Sid
 use Rattle.aeth_base.proofs.Filters.{filter-map}
 use Rattle.aeth_server.specs.PrivateServer.{accepted}
 use Rattle.aeth_trace.specs.{Words.words_on, declared.words.WordRow.WordRow}
-use Rattle.aeth_report.specs.{Design.connection_at, Design.queue_at, Flows.Run, Flows.is_within}
+use Rattle.aeth_report.specs.Design.{connection_at, queue_at}
+use Rattle.aeth_report.specs.Flows.{Run, is_within}
+use Rattle.aeth_report.specs.SessionList.{ChannelSession, session_list, listed_at}
+use Rattle.aeth_report.proofs.{SessionNumbers.partner-is, SessionPairs.partner-back}
 use Rattle.aeth_refinement.specs.Accepted.{IsAnswered}
-use Rattle.aeth_fabric.specs.Fabric.{Placed, fabric_over, flow_in, passage_of, placed_at, placed_of}
-use Rattle.aeth_fabric.specs.Fabric.{row_in}
-use Rattle.aeth_fabric.proofs.Numbers.{opposite-back, opposite-is}
+use Rattle.aeth_fabric.specs.Fabric.{fabric_over, flow_in, passage_of, row_in}
 
 -- A channel lands at the core from which the opposite one is sent.
 sends_back : (connection : Connection) (side : Side)
@@ -21,32 +22,32 @@ sends_back connection Fwd = refl
 sends_back connection Back = refl
 
 module _ (run : Run) where
-  pub answered : (c : ℕ) → c < length (placed_of run) → IsAnswered (fabric_over run) c
+  pub answered : (c : ℕ) → c < length (session_list run) → IsAnswered (fabric_over run) c
   answered c within =
-      let other = opposite-is run c within in
+      let other = partner-is run c within in
       let is = other.is in
-      let channel = (placed_at run c).channel in
+      let channel = (listed_at run c).channel in
       record {
         known = other.known;
-        back = opposite-back run c within;
+        back = partner-back c;
         remote = ap (λ (core : CoreId). queue_at run.design core channel.conn)
             (sends_back (connection_at run.design channel.conn) channel.side)
-            ∙ sym (ap (λ (p : Placed). (row_in run p).queue) is);
-        server = sym (ap (λ (p : Placed). (flow_in run p).server) is);
-        slots = sym (ap (λ (p : Placed). (flow_in run p).server.shape.slots) is);
-        delay = sym (ap (λ (p : Placed). (flow_in run p).server.shape.path_delay) is);
-        since = ap (λ (p : Placed). (passage_of run p).since) is;
-        go = ap (λ (p : Placed). (flow_in run p).server.go) is;
-        stop = ap (λ (p : Placed). (flow_in run p).server.stop) is;
-        finish = ap (λ (p : Placed). (flow_in run p).server.finish) is;
+            ∙ sym (ap (λ (p : ChannelSession). (row_in run p).queue) is);
+        server = sym (ap (λ (p : ChannelSession). (flow_in run p).server) is);
+        slots = sym (ap (λ (p : ChannelSession). (flow_in run p).server.shape.slots) is);
+        delay = sym (ap (λ (p : ChannelSession). (flow_in run p).server.shape.path_delay) is);
+        since = λ i. (passage_of run (other.place i) (is i)).since;
+        go = ap (λ (p : ChannelSession). (flow_in run p).server.go) is;
+        stop = ap (λ (p : ChannelSession). (flow_in run p).server.stop) is;
+        finish = ap (λ (p : ChannelSession). (flow_in run p).server.finish) is;
       }
 
   -- There is a value for each word that it accepts.
-  pub values-accepted : (placed : Placed)
-      → length (accepted (flow_in run placed).server) ≡ length (flow_in run placed).values
-  values-accepted placed =
-      let server = (flow_in run placed).server in
-      let words = words_on run.words placed.channel in
+  pub values-accepted : (session : ChannelSession)
+      → length (accepted (flow_in run session).server) ≡ length (flow_in run session).values
+  values-accepted session =
+      let server = (flow_in run session).server in
+      let words = words_on run.words session.channel in
       let kept = filter (is_within server.go server.until) words in
       ap length (filter-map (λ (a : ℕ). nat_le server.go a && nat_lt a server.until)
       (λ (row : WordRow). row.cycle) words)

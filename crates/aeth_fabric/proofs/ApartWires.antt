@@ -2,8 +2,7 @@
 use Rattle.std.proofs.Common.{◌≡◌, ◌≤◌, ◌<◌, ◌+◌, ◌%◌, ◌∙◌, ℕ, suc, true, List, [], ◌∷◌, Option}
 use Rattle.std.proofs.Common.{Some, None, length, slice_get, refl, sym, ap, subst, inl, inr, arith}
 use Rattle.std.proofs.Common.{eqb, IfSome, max, option_map, unwrap_or, eqb-true}
-use Rattle.std.proofs.lemmas.Bool.{cases_Bool, cases_lt}
-use Rattle.std.proofs.lemmas.Option.{slice_get-map, slice_get_past}
+use Rattle.std.proofs.lemmas.{Bool.cases_Bool, Bool.cases_lt, Option.slice_get_past}
 use Rattle.std.specs.List.{list_any, position_or_len}
 use Rattle.aeth_base.{specs.Limits.max_path_delay, specs.declared.ids.Channel.Channel}
 use Rattle.aeth_base.{specs.declared.ids.LinkId.LinkId, proofs.Division.mod-before}
@@ -11,18 +10,18 @@ use Rattle.aeth_chip.specs.{Chip.IsChip, Paths.delay_in, Paths.delay_of, Paths.o
 use Rattle.aeth_chip.specs.{declared.node.Link.Link}
 use Rattle.aeth_chip.proofs.WireLemmas.{wire_at-apart}
 use Rattle.aeth_report.specs.{declared.session.Close.Close, Design.grant_at, Flows.Run}
-use Rattle.aeth_report.specs.{Flows.sessions_in, Sessions.Switch, Sessions.close_by, Sessions.go_of}
-use Rattle.aeth_report.specs.{Sessions.session_of, Sound.IsSound}
+use Rattle.aeth_report.specs.{Sessions.Switch, Sessions.close_by, Sessions.go_of, Sound.IsSound}
+use Rattle.aeth_report.specs.{SessionList.ChannelSession, SessionList.session_list}
+use Rattle.aeth_report.specs.{SessionList.listed_at, SessionList.place_at}
 use Rattle.aeth_report.proofs.GrantLemmas.{EntersIn, entered_once}
 use Rattle.aeth_report.proofs.SessionMeetings.{IsInTables as IsStayInTables, finish_by}
 use Rattle.aeth_report.proofs.SessionMeetings.{stays_alone_in_tables, stays_meet_in_tables}
 use Rattle.aeth_report.proofs.StaysAlone.{at-Contains}
+use Rattle.aeth_report.proofs.SessionNumbers.{listed-there, one_number}
 use Rattle.aeth_tables.proofs.ListLaws.{has_place}
 use Rattle.aeth_refinement.specs.Fabric.{IsPlace, IsInTables, has_slot}
-use Rattle.aeth_fabric.specs.Fabric.{Placed, entered_by, fabric_over, flow_in, placed_at, placed_of}
-use Rattle.aeth_fabric.specs.Fabric.{stays_in}
+use Rattle.aeth_fabric.specs.Fabric.{entered_by, fabric_over, flow_in, stays_in}
 use Rattle.aeth_fabric.specs.Paths.{wires_along}
-use Rattle.aeth_fabric.proofs.Numbers.{IsPlacedAt, one_number, placed-there}
 use Rattle.aeth_fabric.proofs.PathWires.{IsWireOf, wires-place}
 
 -- A slot that is among some stands at its place.
@@ -52,57 +51,50 @@ link_known links l p short = elim (cases_lt l.0 (length links)) [
 
 module _ (run : Run) where
   -- How a stay closes with the run.
-  abbrev pub past : Placed → Close
-  past placed = record {
+  abbrev pub past : ChannelSession → Close
+  past session = record {
     until = run.cycles;
-    stop = max run.cycles (go_of run.spans placed.stay.opening);
-    fin = max run.cycles (go_of run.spans placed.stay.opening) + max_path_delay;
+    stop = max run.cycles (go_of run.spans session.stay.opening);
+    fin = max run.cycles (go_of run.spans session.stay.opening) + max_path_delay;
   }
 
   -- A session that is in the tables is so by the finishes of the switches that open and close it.
-  pub covered : (placed : Placed) (t : ℕ) → entered_by run placed.stay.opening ≤ t
-      → t < (flow_in run placed).server.finish
-      → IsStayInTables run.design.groups run.spans placed.stay t
-  covered placed t since unfinished =
+  pub covered : (session : ChannelSession) (t : ℕ) → entered_by run session.stay.opening ≤ t
+      → t < (flow_in run session).server.finish
+      → IsStayInTables run.design.groups run.spans session.stay t
+  covered session t since unfinished =
       let openings : (o : Option Switch) → entered_by run o ≤ t
       → IfSome o (λ switch. finish_by run.design.groups run.spans switch ≤ t) = elim [
         | None ↦ λ goes. tt
         | Some switch ↦ λ goes. goes
       ] in
       let closings : (o : Option Switch)
-      → t < (unwrap_or (option_map (close_by run.spans) o) (past placed)).fin
+      → t < (unwrap_or (option_map (close_by run.spans) o) (past session)).fin
       → IfSome o (λ switch. t < finish_by run.design.groups run.spans switch) = elim [
         | None ↦ λ below. tt
         | Some switch ↦ λ below. below
       ] in
       record {
-        opened_by = openings placed.stay.opening since;
-        closed_by = closings placed.stay.closing unfinished;
+        opened_by = openings session.stay.opening since;
+        closed_by = closings session.stay.closing unfinished;
       }
-
-  -- It is one of its connection's.
-  pub session_at : (c : ℕ) (placed : Placed) → IsPlacedAt run c placed
-      → slice_get (sessions_in run placed.channel.conn.0) placed.place
-      ≡ Some (session_of run.spans placed.stay)
-  session_at c placed is =
-      slice_get-map (session_of run.spans) (stays_in run placed.channel.conn.0) placed.place
-      ∙ ap (option_map (session_of run.spans)) is.stay_at
 
   module _ (is_chip : IsChip run.design.chip) (sound : IsSound run) where
     -- A session that is in the tables is on a wire in a slot.
-    pub record IsAt (placed : Placed) (i l x t : ℕ) : Type 0 where
-      pub covers : IsStayInTables run.design.groups run.spans placed.stay t
-      pub place : slice_get (wires_along run.design.chip.links (flow_in run placed).path) i ≡ Some l
-      pub slot : list_any (λ own. eqb x own) (flow_in run placed).server.shape.slots ≡ true
+    pub record IsAt (session : ChannelSession) (i l x t : ℕ) : Type 0 where
+      pub covers : IsStayInTables run.design.groups run.spans session.stay t
+      pub place : slice_get (wires_along run.design.chip.links (flow_in run session).path) i
+          ≡ Some l
+      pub slot : list_any (λ own. eqb x own) (flow_in run session).server.shape.slots ≡ true
 
     -- It enters the link of the wire in its slot.
-    enters : (placed : Placed) (i l x t s : ℕ) → (at : IsAt placed i l x t)
-        → (of : IsWireOf run.design.chip.links (flow_in run placed).path i l)
-        → (x + offset run.design.chip.links (flow_in run placed).path of.place)
+    enters : (session : ChannelSession) (i l x t s : ℕ) → (at : IsAt session i l x t)
+        → (of : IsWireOf run.design.chip.links (flow_in run session).path i l)
+        → (x + offset run.design.chip.links (flow_in run session).path of.place)
         % run.design.chip.slots ≡ s
-        → EntersIn run.design sound.granted placed.channel placed.stay.group of.link.0 of.place s
-    enters placed i l x t s at of slot =
-        let slots = (flow_in run placed).server.shape.slots in
+        → EntersIn run.design sound.granted session.channel session.stay.group of.link.0 of.place s
+    enters session i l x t s at of slot =
+        let slots = (flow_in run session).server.shape.slots in
         record {
           start = x;
           place = of.at;
@@ -111,16 +103,14 @@ module _ (run : Run) where
           slot = slot;
         }
 
-    pub wires_apart : (c d i j l x y t : ℕ) → c < length (placed_of run)
-        → d < length (placed_of run) → IsAt (placed_at run c) i l x t
-        → IsAt (placed_at run d) j l y t
+    pub wires_apart : (c d i j l x y t : ℕ) → c < length (session_list run)
+        → d < length (session_list run) → IsAt (listed_at run c) i l x t
+        → IsAt (listed_at run d) j l y t
         → (x + i) % run.design.chip.slots ≡ (y + j) % run.design.chip.slots
         → (c ≡ d) × (i ≡ j)
     wires_apart c d i j l x y t known_c known_d one two same =
-        let p = placed_at run c in
-        let q = placed_at run d in
-        let is_p = placed-there run c known_c in
-        let is_q = placed-there run d known_d in
+        let p = listed_at run c in
+        let q = listed_at run d in
         let links = run.design.chip.links in
         let size = run.design.chip.slots in
         let path_p = (flow_in run p).path in
@@ -131,12 +121,13 @@ module _ (run : Run) where
         (link_known links of_p.link of_p.inner of_p.short)
         (link_known links of_q.link of_q.inner of_q.short) of_p.short of_q.short
         (of_p.is ∙ sym of_q.is) in
-        let at_s = is_p.stay_at in
-        let at_e = is_q.stay_at in
+        let at_s = (listed-there run c known_c).stay_at in
+        let at_e = (listed-there run d known_d).stay_at in
         let meet = stays_meet_in_tables run.design.groups run.spans run.switches p.channel.conn.0
         q.channel.conn.0 t sound.apart p.stay q.stay
-        (at-Contains (stays_in run p.channel.conn.0) p.place p.stay at_s)
-        (at-Contains (stays_in run q.channel.conn.0) q.place q.stay at_e) one.covers two.covers in
+        (at-Contains (stays_in run p.channel.conn.0) (place_at run c) p.stay at_s)
+        (at-Contains (stays_in run q.channel.conn.0) (place_at run d) q.stay at_e)
+        one.covers two.covers in
         let index_p = of_p.index in
         let index_q = of_q.index in
         let inner = wire.1 in
@@ -157,21 +148,21 @@ module _ (run : Run) where
         ((x + off_p) % size)) (sym wire.0) enters_q) in
         let once = entered_once run.design sound.granted p.channel q.channel p.stay.group
         of_p.link.0 of_p.place of_q.place ((x + off_p) % size) meet.together enters_p moved in
-        let there : slice_get (stays_in run p.channel.conn.0) q.place ≡ Some q.stay =
-        subst (λ (ch : Channel). slice_get (stays_in run ch.conn.0) q.place ≡ Some q.stay)
+        let there : slice_get (stays_in run p.channel.conn.0) (place_at run d) ≡ Some q.stay =
+        subst (λ (ch : Channel). slice_get (stays_in run ch.conn.0) (place_at run d) ≡ Some q.stay)
         (sym once.0) at_e in
         let places = stays_alone_in_tables run.design.groups run.spans run.switches
-        p.channel.conn.0 t sound.apart p.place q.place p.stay q.stay at_s there one.covers
-        two.covers in
+        p.channel.conn.0 t sound.apart (place_at run c) (place_at run d) p.stay q.stay
+        at_s there one.covers two.covers in
         let offsets : off_p ≡ off_q = λ k. offset links
         (grant_at run.design (once.0 k) (meet.group k)).path (once.1 k) in (
-          one_number run c d p q is_p is_q once.0 places,
+          one_number run c d known_c known_d once.0 places,
           omega (arith, index_p, index_q, inner, offsets),
         )
 
 -- So it is of the sessions of the run's fabric.
 pub shares_none : (run : Run) → IsChip run.design.chip → IsSound run → (c d : ℕ)
-    → c < length (placed_of run) → d < length (placed_of run) → (i j l x y t : ℕ)
+    → c < length (session_list run) → d < length (session_list run) → (i j l x y t : ℕ)
     → IsInTables (fabric_over run) c t → IsInTables (fabric_over run) d t
     → IsPlace (fabric_over run) c i l → IsPlace (fabric_over run) d j l
     → has_slot (fabric_over run) c x ≡ true → has_slot (fabric_over run) d y ≡ true
@@ -179,11 +170,11 @@ pub shares_none : (run : Run) → IsChip run.design.chip → IsSound run → (c 
 shares_none run is_chip sound c d known_c known_d i j l x y t going_c going_d place_c place_d slot_c
     slot_d same =
     wires_apart run is_chip sound c d i j l x y t known_c known_d (record {
-      covers = covered run (placed_at run c) t going_c.since going_c.unfinished;
+      covers = covered run (listed_at run c) t going_c.since going_c.unfinished;
       place = place_c;
       slot = slot_c;
     }) (record {
-      covers = covered run (placed_at run d) t going_d.since going_d.unfinished;
+      covers = covered run (listed_at run d) t going_d.since going_d.unfinished;
       place = place_d;
       slot = slot_d;
     }) same

@@ -4,30 +4,30 @@ use Rattle.std.proofs.Common.{inl, inr, arith}
 use Rattle.std.proofs.lemmas.Option.{same_Some, slice_get_within}
 use Rattle.aeth_chip.specs.{Chip.IsChip, Paths.IsPath}
 use Rattle.aeth_report.specs.Flows.{Run}
+use Rattle.aeth_report.specs.SessionList.{ChannelSession, session_list, listed_at, partner_of}
 use Rattle.aeth_refinement.specs.Accepted.{HasPath, IsRouterPlace, IsStagePlace}
 use Rattle.aeth_refinement.specs.Fabric.{AtInterface}
-use Rattle.aeth_fabric.specs.{Fabric.Placed, Fabric.fabric_over, Fabric.flow_in, Fabric.opposite_in}
-use Rattle.aeth_fabric.specs.{Fabric.placed_at, Fabric.placed_of, Fabric.row_in, Paths.wires_along}
+use Rattle.aeth_fabric.specs.{Fabric.fabric_over, Fabric.flow_in, Fabric.row_in, Paths.wires_along}
 use Rattle.aeth_fabric.specs.{Wiring.end_of}
 use Rattle.aeth_fabric.proofs.PathHops.{GoesOn, Landed, Routed, Staged, begins, goes_on}
 
-module _ (run : Run) (is_chip : IsChip run.design.chip) (c : ℕ) (known : c < length (placed_of run))
-  where
-    abbrev one : Placed
-    one = placed_at run c
+module _ (run : Run) (is_chip : IsChip run.design.chip) (c : ℕ)
+    (known : c < length (session_list run)) where
+    abbrev one : ChannelSession
+    one = listed_at run c
 
     abbrev wires : List ℕ
     wires = wires_along run.design.chip.links (flow_in run one).path
 
     -- The path leads from its interface to that of the opposite session.
     abbrev pub LeadsBack : Type 0
-    LeadsBack = IsPath run.design.chip.links (row_in run (placed_at run c)).ni
-        (row_in run (placed_at run (opposite_in run c))).ni (flow_in run (placed_at run c)).path
+    LeadsBack = IsPath run.design.chip.links (row_in run (listed_at run c)).ni
+        (row_in run (listed_at run (partner_of c))).ni (flow_in run (listed_at run c)).path
 
     module _ (is_path : LeadsBack) where
       abbrev Goes : ℕ → ℕ → Type 0
-      Goes = GoesOn run.design.chip is_chip (row_in run one).ni (row_in run (placed_at run (opposite_in run c))).ni
-          (flow_in run one).path is_path
+      Goes = GoesOn run.design.chip is_chip (row_in run one).ni
+          (row_in run (listed_at run (partner_of c))).ni (flow_in run one).path is_path
 
       -- Where a wire isn't the last, the next one is that of the path.
       inner-in : (i l m : ℕ) → slice_get wires (suc i) ≡ Some m → Goes i l
@@ -54,7 +54,8 @@ module _ (run : Run) (is_chip : IsChip run.design.chip) (c : ℕ) (known : c < l
           absurd (omega (arith, within, last))
 
       last-in : (i l : ℕ) → suc i ≡ length wires → Goes i l
-          → end_of run.design.chip.links l ≡ AtInterface (row_in run (placed_at run (opposite_in run c))).ni.0
+          → end_of run.design.chip.links l
+          ≡ AtInterface (row_in run (listed_at run (partner_of c))).ni.0
       last-in i l all (Routed n at through) =
           let within = slice_get_within wires (suc i) n at in absurd (omega (arith, within, all))
       last-in i l all (Staged n at through) =
@@ -63,10 +64,10 @@ module _ (run : Run) (is_chip : IsChip run.design.chip) (c : ℕ) (known : c < l
 
       pub has_path : HasPath (fabric_over run) c
       has_path =
-          let go = goes_on run.design.chip is_chip (row_in run one).ni (row_in run (placed_at run (opposite_in run c))).ni
-          (flow_in run one).path is_path in
+          let go = goes_on run.design.chip is_chip (row_in run one).ni
+          (row_in run (listed_at run (partner_of c))).ni (flow_in run one).path is_path in
           let first = begins run.design.chip is_chip (row_in run one).ni
-          (row_in run (placed_at run (opposite_in run c))).ni (flow_in run one).path is_path in
+          (row_in run (listed_at run (partner_of c))).ni (flow_in run one).path is_path in
           record {
             first = first.first;
             at = first.at;

@@ -4,7 +4,6 @@ pub mod WiredLemmas
 pub mod Flattened
 pub mod PathWires
 pub mod PathHops
-pub mod Numbers
 pub mod Answering
 pub mod ApartWires
 pub mod Windows

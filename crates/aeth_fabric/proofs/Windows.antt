@@ -4,30 +4,30 @@ use Rattle.std.proofs.Common.{◌≡◌, ◌≤◌, ◌<◌, ◌+◌, ◌∙◌,
 use Rattle.std.proofs.Common.{slice_get, refl, ap, inl, inr, arith, ◌==◌, IfSome, option_map}
 use Rattle.std.proofs.Common.{unwrap_or}
 use Rattle.std.proofs.Math.Nat.{le-max_right}
-use Rattle.std.proofs.lemmas.Option.{get_or_from_slice_get, slice_get_within}
+use Rattle.std.proofs.lemmas.Option.{slice_get_within}
 use Rattle.std.specs.List.{list_any}
 use Rattle.aeth_chip.specs.Paths.{path_delay}
 use Rattle.aeth_group.specs.Members.{GroupsData}
 use Rattle.aeth_report.specs.{Design.grant_at, Flows.Run, Sessions.Switch, Sessions.close_by}
-use Rattle.aeth_report.specs.{Sessions.go_of, Sound.IsSound}
+use Rattle.aeth_report.specs.{Sessions.go_of, Sound.IsSound, SessionList.ChannelSession}
+use Rattle.aeth_report.specs.{SessionList.session_list, SessionList.listed_at, SessionList.place_at}
 use Rattle.aeth_report.proofs.Stays.{IsClosedBy, IsStayOf, stays_of-is}
 use Rattle.aeth_report.proofs.StaysAlone.{at-Contains}
+use Rattle.aeth_report.proofs.SessionNumbers.{IsListedAt, listed-there, numbered, one_number}
 use Rattle.aeth_reconf.specs.Rows.{RowOf}
 use Rattle.aeth_reconf.specs.Windows.{AreAllApart, AreQueuesApart, AreWritable, IsHandedOn}
 use Rattle.aeth_reconf.specs.Windows.{IsInOrder, IsOwned, IsSlotInOrder, IsSlotWritten, IsStayAt}
-use Rattle.aeth_reconf.specs.Windows.{IsWritten, cleared_of, freed_of}
+use Rattle.aeth_reconf.specs.Windows.{IsWritten, cleared_of, freed_of, set_of}
 use Rattle.aeth_reconf.proofs.OneWritten.{slot_one, written_one}
 use Rattle.aeth_reconf.proofs.Owners.{follows, owned_first, owned_one}
 use Rattle.aeth_reconf.proofs.WindowLemmas.{in_order, slots_in_order}
 use Rattle.aeth_refinement.specs.Accepted.{HasEntry, HasRoute, IsOrdered}
 use Rattle.aeth_refinement.specs.Fabric.{IsSameQueue, Owns, server_at}
 use Rattle.aeth_accepted.specs.Inputs.{row_at}
-use Rattle.aeth_fabric.specs.Fabric.{entered_by, Placed, cleared_by, fabric_over, flow_in, freed_by}
-use Rattle.aeth_fabric.specs.Fabric.{freed_in, no_placed, passage_of, placed_at, placed_of, row_in}
-use Rattle.aeth_fabric.specs.Fabric.{slot_at, slot_freed_in, slot_set_in, stays_in}
-use Rattle.aeth_fabric.proofs.ApartWires.{past, slot_place}
-use Rattle.aeth_fabric.proofs.Numbers.{IsPlacedAt, numbered, one_number, placed-there}
-use Rattle.aeth_fabric.proofs.PathWires.{length-wires_along}
+use Rattle.aeth_fabric.specs.Fabric.{entered_by, cleared_by, fabric_over, flow_in, freed_by}
+use Rattle.aeth_fabric.specs.Fabric.{freed_in, passage_of, row_in, slot_at, slot_freed_in}
+use Rattle.aeth_fabric.specs.Fabric.{slot_set_in, stays_in}
+use Rattle.aeth_fabric.proofs.{ApartWires.past, ApartWires.slot_place, PathWires.length-wires_along}
 
 module _ (run : Run) where
   abbrev groups : GroupsData
@@ -41,28 +41,28 @@ module _ (run : Run) where
   AreWritten = AreWritable run.design.groups (row_at run.design) run.spans run.switches
 
   -- A session's stay.
-  stay : (c : ℕ) (p : Placed) → IsPlacedAt run c p
-      → IsStayAt run.design.groups run.switches p.channel p.place p.stay
+  stay : (c : ℕ) (p : ChannelSession) → IsListedAt run c p
+      → IsStayAt run.design.groups run.switches p.channel (place_at run c) p.stay
   stay c p is = record { known = is.known; at = is.stay_at }
 
   -- How it closes, by the switch that closes it.
-  abbrev fin_by : Placed → Option Switch → ℕ
+  abbrev fin_by : ChannelSession → Option Switch → ℕ
   fin_by p o = (unwrap_or (option_map (close_by run.spans) o) (past run p)).fin
 
-  abbrev stop_by : Placed → Option Switch → ℕ
+  abbrev stop_by : ChannelSession → Option Switch → ℕ
   stop_by p o = (unwrap_or (option_map (close_by run.spans) o) (past run p)).stop
 
   -- ---- the order of its cycles
 
-  module _ (sound : IsSound run) (may : AreWritten) (c : ℕ) (p : Placed) (is : IsPlacedAt run c p)
-    where
+  module _ (sound : IsSound run) (may : AreWritten) (c : ℕ) (p : ChannelSession)
+      (is : IsListedAt run c p) where
       of : IsStayOf run.design.groups p.channel.conn.0 p.stay
       of = stays_of-is run.design.groups p.channel.conn.0 run.switches p.stay sound.known
-          (at-Contains (stays_in run p.channel.conn.0) p.place p.stay is.stay_at)
+          (at-Contains (stays_in run p.channel.conn.0) (place_at run c) p.stay is.stay_at)
 
       ordered_route : IsInOrder run.design.groups (row_at run.design) run.spans p.channel p.stay
       ordered_route = in_order run.design.groups (row_at run.design) run.spans run.switches may p.channel
-          p.place p.stay (stay c p is)
+          (place_at run c) p.stay (stay c p is)
 
       -- It goes before it stops, and stops by its finish.
       stops : go_of run.spans p.stay.opening ≤ (flow_in run p).server.stop
@@ -120,7 +120,7 @@ module _ (run : Run) where
         ordered_slot : IsSlotInOrder run.design.groups (row_at run.design) run.spans p.channel p.stay
             (slot_at run p x)
         ordered_slot = slots_in_order run.design.groups (row_at run.design) run.spans run.switches may
-            p.channel p.place p.stay (stay c p is) (slot_at run p x)
+            p.channel (place_at run c) p.stay (stay c p is) (slot_at run p x)
             (slice_get_within (row_in run p).slots.slots (slot_at run p x) x at_slot)
 
         clears : (flow_in run p).server.finish < slot_freed_in run p x
@@ -149,36 +149,36 @@ module _ (run : Run) where
             cases p.stay.closing ordered_slot.then_free
 
       -- Its queue is its own from the start, or from the finish of the session before it.
-      handed_on : IsHandedOn run.spans (stays_in run p.channel.conn.0) p.place → (d : ℕ)
-          × (d < length (placed_of run))
-          × (suc (flow_in run (placed_at run d)).server.finish ≡ (passage_of run p).since)
-          × ((row_in run (placed_at run d)).ni.0 ≡ (row_in run p).ni.0)
-          × ((row_in run (placed_at run d)).queue ≡ (row_in run p).queue)
+      handed_on : IsHandedOn run.spans (stays_in run p.channel.conn.0) (place_at run c) → (d : ℕ)
+          × (d < length (session_list run))
+          × (suc (flow_in run (listed_at run d)).server.finish
+          ≡ (passage_of run (place_at run c) p).since)
+          × ((row_in run (listed_at run d)).ni.0 ≡ (row_in run p).ni.0)
+          × ((row_in run (listed_at run d)).queue ≡ (row_in run p).queue)
       handed_on handed =
-          let (d, there) = numbered run p.channel handed.before handed.stay is.known handed.at in
-          let q : Placed =
-          record { channel = p.channel; place = handed.before; stay = handed.stay } in
-          let same : placed_at run d ≡ q =
-          get_or_from_slice_get (placed_of run) d q no_placed there in
-          let finish : (flow_in run (placed_at run d)).server.finish
+          let found = numbered run p.channel handed.before handed.stay is.known handed.at in
+          let d = found.number in
+          let same = found.is in
+          let q : ChannelSession = record { channel = p.channel; stay = handed.stay } in
+          let finish : (flow_in run (listed_at run d)).server.finish
           ≡ (close_by run.spans handed.switch).fin =
-          ap (λ (z : Placed). (flow_in run z).server.finish) same
+          ap (λ (z : ChannelSession). (flow_in run z).server.finish) same
           ∙ ap (fin_by q) handed.closing in
           let since = handed.since in (
             d,
-            slice_get_within (placed_of run) d q there,
+            found.known,
             omega (arith, finish, since),
-            ap (λ (z : Placed). (row_in run z).ni.0) same,
-            ap (λ (z : Placed). (row_in run z).queue) same,
+            ap (λ (z : ChannelSession). (row_in run z).ni.0) same,
+            ap (λ (z : ChannelSession). (row_in run z).queue) same,
           )
 
   -- What a session has sent by its stop has landed by its finish.
-  pub drained : IsSound run → AreWritten → (c : ℕ) → c < length (placed_of run)
+  pub drained : IsSound run → AreWritten → (c : ℕ) → c < length (session_list run)
       → (server_at (fabric_over run) c).stop + length ((fabric_over run).passage c).wires
       ≤ (server_at (fabric_over run) c).finish
   drained sound may c within =
-      let p = placed_at run c in
-      let drain = drains sound may c p (placed-there run c within) in
+      let p = listed_at run c in
+      let drain = drains sound may c p (listed-there run c within) in
       let count = length-wires_along run.design.chip.links (flow_in run p).path in
       omega (arith, drain, count)
 
@@ -188,11 +188,11 @@ module _ (run : Run) where
   enters-first (Some switch) = omega arith
 
   -- So the cycles of each session are in order.
-  pub ordered : IsSound run → AreWritten → (c : ℕ) → c < length (placed_of run)
+  pub ordered : IsSound run → AreWritten → (c : ℕ) → c < length (session_list run)
       → IsOrdered (fabric_over run) c
   ordered sound may c within =
-      let p = placed_at run c in
-      let is = placed-there run c within in
+      let p = listed_at run c in
+      let is = listed-there run c within in
       let route = ordered_route sound may c p is in
       let first = route.first_set in
       let go_stop = stops sound may c p is in
@@ -200,7 +200,7 @@ module _ (run : Run) where
       let free = frees sound may c p is in
       record {
         set_since = owned_first run.design.groups (row_at run.design) run.spans run.switches may
-            p.channel p.place p.stay (stay c p is);
+            p.channel (place_at run c) p.stay (stay c p is);
         set_go = first;
         entered_go = enters-first p.stay.opening;
         set_stop = omega (arith, first, go_stop);
@@ -216,7 +216,7 @@ module _ (run : Run) where
         slot_freed = λ x own. clears_first sound may c p is x own;
         follows =
             elim (follows run.design.groups (row_at run.design) run.spans run.switches may
-            p.channel p.place p.stay (stay c p is)) [
+            p.channel (place_at run c) p.stay (stay c p is)) [
               | inl start ↦ inl start
               | inr handed ↦
                   let (d, known, since, ni, queue) = handed_on sound may c p is handed in
@@ -227,10 +227,10 @@ module _ (run : Run) where
   -- ---- one session at a time
 
   -- It has its queues.
-  owned : (p : Placed) (t : ℕ) → (passage_of run p).since ≤ t
+  owned : (place : ℕ) (p : ChannelSession) (t : ℕ) → (passage_of run place p).since ≤ t
       → t ≤ (flow_in run p).server.finish
-      → IsOwned run.spans (stays_in run p.channel.conn.0) p.place p.stay t
-  owned p t since finish =
+      → IsOwned run.spans (stays_in run p.channel.conn.0) place p.stay t
+  owned place p t since finish =
       let cases : (o : Option Switch) → t ≤ fin_by p o
       → IfSome o (λ switch. t ≤ (close_by run.spans switch).fin) = elim [
         | None ↦ λ below. tt
@@ -238,8 +238,12 @@ module _ (run : Run) where
       ] in
       record { since = since; unfinished = cases p.stay.closing finish }
 
+  -- When its route is set.
+  abbrev set_in : ChannelSession → ℕ
+  set_in p = set_of run.design.groups (row_at run.design) run.spans p.channel p.stay.opening
+
   -- Its route stands written.
-  route_written : (p : Placed) (t : ℕ) → (passage_of run p).set ≤ t → t < freed_in run p
+  route_written : (p : ChannelSession) (t : ℕ) → set_in p ≤ t → t < freed_in run p
       → IsWritten run.design.groups (row_at run.design) run.spans p.channel p.stay t
   route_written p t set freed =
       let cases : (o : Option Switch) → t < freed_by run p o → IfSome o (λ switch.
@@ -251,7 +255,7 @@ module _ (run : Run) where
       record { set = set; unfreed = cases p.stay.closing freed }
 
   -- So does its entry of a slot.
-  slot_written : (p : Placed) (x t : ℕ)
+  slot_written : (p : ChannelSession) (x t : ℕ)
       → list_any (λ own. x == own) (flow_in run p).server.shape.slots ≡ true
       → slot_set_in run p x ≤ t → t < slot_freed_in run p x
       → IsSlotWritten run.design.groups (row_at run.design) run.spans p.channel p.stay
@@ -270,51 +274,52 @@ module _ (run : Run) where
       }
 
   -- Interfaces of one number are one.
-  one_ni : (p q : Placed) → (row_in run p).ni.0 ≡ (row_in run q).ni.0
+  one_ni : (p q : ChannelSession) → (row_in run p).ni.0 ≡ (row_in run q).ni.0
       → (row_in run p).ni ≡ (row_in run q).ni
   one_ni p q same = λ i. record { 0 = same i }
 
-  module _ (may : AreWritten) (c d : ℕ) (known_c : c < length (placed_of run))
-      (known_d : d < length (placed_of run)) where
+  module _ (may : AreWritten) (c d : ℕ) (known_c : c < length (session_list run))
+      (known_d : d < length (session_list run)) where
     -- Sessions of one channel at one place are one.
-    one_place : ((placed_at run c).channel ≡ (placed_at run d).channel)
-        × ((placed_at run c).place ≡ (placed_at run d).place) → c ≡ d
-    one_place same = one_number run c d (placed_at run c) (placed_at run d)
-        (placed-there run c known_c) (placed-there run d known_d) same.0 same.1
+    one_place : ((listed_at run c).channel ≡ (listed_at run d).channel)
+        × (place_at run c ≡ place_at run d) → c ≡ d
+    one_place same = one_number run c d known_c known_d same.0 same.1
 
     pub one_queue : AreQueuesApart run.design.groups (row_at run.design) → (t : ℕ)
         → Owns (fabric_over run) c t → Owns (fabric_over run) d t
         → IsSameQueue (fabric_over run) c d → c ≡ d
     one_queue apart t one two same =
-        let p = placed_at run c in
-        let q = placed_at run d in
+        let p = listed_at run c in
+        let q = listed_at run d in
         one_place (owned_one run.design.groups (row_at run.design) run.spans run.switches may apart
-        p.channel q.channel p.place q.place p.stay q.stay (stay c p (placed-there run c known_c))
-        (stay d q (placed-there run d known_d)) t (owned p t one.since one.finish)
-        (owned q t two.since two.finish) (one_ni p q same.ni) same.queue)
+        p.channel q.channel (place_at run c) (place_at run d) p.stay q.stay
+        (stay c p (listed-there run c known_c)) (stay d q (listed-there run d known_d)) t
+        (owned (place_at run c) p t one.since one.finish)
+        (owned (place_at run d) q t two.since two.finish) (one_ni p q same.ni) same.queue)
 
     pub one_route : AreAllApart run.design.groups (row_at run.design) → (t : ℕ)
         → HasRoute (fabric_over run) c t → HasRoute (fabric_over run) d t
         → IsSameQueue (fabric_over run) c d → c ≡ d
     one_route apart t one two same =
-        let p = placed_at run c in
-        let q = placed_at run d in
+        let p = listed_at run c in
+        let q = listed_at run d in
         one_place (written_one run.design.groups (row_at run.design) run.spans run.switches may apart
-        p.channel q.channel p.place q.place p.stay q.stay t (record {
-          first = stay c p (placed-there run c known_c);
-          second = stay d q (placed-there run d known_d);
+        p.channel q.channel (place_at run c) (place_at run d) p.stay q.stay t (record {
+          first = stay c p (listed-there run c known_c);
+          second = stay d q (listed-there run d known_d);
           written = route_written p t one.set one.freed;
           written_too = route_written q t two.set two.freed;
         }) (record { ni = one_ni p q same.ni; shares = inl same.queue }))
 
     pub one_entry : AreAllApart run.design.groups (row_at run.design) → (x t : ℕ)
         → HasEntry (fabric_over run) c x t → HasEntry (fabric_over run) d x t
-        → (row_in run (placed_at run c)).ni.0 ≡ (row_in run (placed_at run d)).ni.0 → c ≡ d
+        → (row_in run (listed_at run c)).ni.0 ≡ (row_in run (listed_at run d)).ni.0 → c ≡ d
     one_entry apart x t one two same =
-        let p = placed_at run c in
-        let q = placed_at run d in
+        let p = listed_at run c in
+        let q = listed_at run d in
         one_place (slot_one run.design.groups (row_at run.design) run.spans run.switches may apart
-        p.channel q.channel p.place q.place p.stay q.stay (stay c p (placed-there run c known_c))
-        (stay d q (placed-there run d known_d)) (slot_at run p x) (slot_at run q x) x t
+        p.channel q.channel (place_at run c) (place_at run d) p.stay q.stay
+        (stay c p (listed-there run c known_c)) (stay d q (listed-there run d known_d))
+        (slot_at run p x) (slot_at run q x) x t
         (slot_written p x t one.uses one.set one.freed) (slot_written q x t two.uses two.set two.freed)
         (one_ni p q same))

@@ -6,20 +6,21 @@ use Rattle.std.proofs.Common.{nat_le, unwrap_or}
 use Rattle.std.proofs.lemmas.Bool.{and_from, cases_lt, or_left, or_right}
 use Rattle.std.specs.Option.{option_map_or}
 use Rattle.aeth_base.specs.{Limits.max_path_delay, declared.ids.LinkId.LinkId}
-use Rattle.aeth_base.proofs.Members.{Contains-here, Contains-slice_get, Contains-there}
-use Rattle.aeth_base.proofs.Members.{slice_get-Contains, sole-Contains}
+use Rattle.aeth_base.proofs.Members.{Contains-here, Contains-there, slice_get-Contains}
+use Rattle.aeth_base.proofs.Members.{sole-Contains}
 use Rattle.aeth_chip.{specs.Paths.delay_of, specs.Paths.offset, proofs.OffsetLemmas.offset-more}
 use Rattle.aeth_server.proofs.SlotCycleLemmas.{is_slot-member}
 use Rattle.aeth_clocked.specs.declared.flit.Flit.{Flit}
 use Rattle.aeth_report.specs.{Carries.IsCarried, Carries.IsSendable, Carries.carries}
-use Rattle.aeth_report.specs.{Carries.flit_at, Carries.injects, Channels.channels_of, Design.Design}
-use Rattle.aeth_report.specs.{Design.grant_at, Flows.Flow, Flows.Run, Flows.flow_of}
-use Rattle.aeth_report.specs.{Flows.sessions_in, Sound.IsSound, declared.session.Close.Close}
-use Rattle.aeth_report.specs.{declared.session.Session.Session}
+use Rattle.aeth_report.specs.{Carries.flit_at, Carries.injects, Design.Design, Design.grant_at}
+use Rattle.aeth_report.specs.{Flows.Flow, Flows.Run, Flows.sessions_in, Sound.IsSound}
+use Rattle.aeth_report.specs.{declared.session.Close.Close, declared.session.Session.Session}
+use Rattle.aeth_report.specs.{Sessions.session_of, SessionList.listed_at, SessionList.place_at}
+use Rattle.aeth_report.specs.{SessionList.flow_by}
 use Rattle.aeth_report.proofs.{CarriesLemmas.carries-sole, CarriesLemmas.carries-some}
-use Rattle.aeth_report.proofs.{ChannelLemmas.channels_of-known, FlowPlaces.IsFlowOf}
-use Rattle.aeth_report.proofs.{OneFlit.IsKnown, OneFlit.carried-known, OneFlit.one_flit}
-use Rattle.aeth_report.proofs.{StaysAlone.at-Contains}
+use Rattle.aeth_report.proofs.{FlowPlaces.IsFlowOf, OneFlit.IsKnown, OneFlit.carried-known}
+use Rattle.aeth_report.proofs.{OneFlit.one_flit, StaysAlone.at-Contains}
+use Rattle.aeth_report.proofs.{SessionNumbers.listed-there, ChannelLemmas.known-channels_of}
 use Rattle.aeth_audit.specs.{Audit.audit_of, Audit.broken_by, Audit.comes_from, Audit.fault_before}
 use Rattle.aeth_audit.specs.{Audit.first_fault, Audit.goes_on, Audit.goes_to, Audit.has_after}
 use Rattle.aeth_audit.specs.{Audit.has_before, Audit.is_joined, Audit.is_of_channel, Audit.row_on}
@@ -154,12 +155,16 @@ module _ (run : Run) (sound : IsSound run)
       -- The link is reserved for it.
       abbrev at : Reservation
       at = record {
-        channel = known.of.channel;
-        group = known.of.session.group.0;
+        channel = (listed_at run c).channel;
+        group = (listed_at run c).stay.group;
         place = i;
       }
 
-      stops : IfSome known.of.session.close (λ close. u < close.stop)
+      -- The session of its flow.
+      abbrev session : Session
+      session = session_of run.spans (listed_at run c).stay
+
+      stops : IfSome session.close (λ close. u < close.stop)
       stops =
           let past : Close = record {
             until = run.cycles;
@@ -171,25 +176,24 @@ module _ (run : Run) (sound : IsSound run)
             | None ↦ λ below. tt
             | Some close ↦ λ below. below
           ] in
-          cases known.of.session.close known.reserved.injected.stops
+          cases session.close known.reserved.injected.stops
 
       carried-reserved : IsReserved run.design timeline l t at
       carried-reserved =
-          let of = known.of in
-          let channel = of.channel in
-          let connections = run.design.groups.connections in
-          let is_channel = Contains-slice_get (channels_of connections) of.place channel of.at in
-          let same = sessions channel.conn.0 (channels_of-known connections channel is_channel) in
+          let channel = (listed_at run c).channel in
+          let inside = (listed-there run c known.of.known).known in
           record {
-            session = of.session;
+            session = session;
             injected = u;
-            is_channel = is_channel;
-            is_session = subst (λ (all : List Session). Contains all of.session) (sym same)
-                (at-Contains (sessions_in run channel.conn.0) of.number of.session of.session_at);
+            is_channel = known-channels_of run.design.groups.connections channel inside;
+            is_session = subst (λ (all : List Session). Contains all session)
+                (sym (sessions channel.conn.0 inside))
+                (at-Contains (sessions_in run channel.conn.0) (place_at run c) session
+                known.reserved.session_at);
             group = refl;
             may = record { goes = known.reserved.injected.goes; unstopped = stops };
             slot = is_slot-member run.design.chip.slots
-                (grant_at run.design channel of.session.group.0).slots.slots u
+                (grant_at run.design channel session.group.0).slots.slots u
                 known.reserved.injected.slot;
             place = known.reserved.place;
             time = known.reserved.time;
@@ -198,7 +202,7 @@ module _ (run : Run) (sound : IsSound run)
       -- It is one of the channel.
       carried-of_channel : is_of_channel run.design at (flit_at flow i u) ≡ true
       carried-of_channel =
-          let own = flow_of run known.of.channel known.of.session in
+          let own = flow_by run (listed_at run c) in
           let is = known.of.is in
           let sendable = subst IsSendable (sym is) (fitting l t c flow i u carried).sendable in
           let injected = subst (λ (f : Flow). injects f u ≡ true) (sym is) carried.injected in

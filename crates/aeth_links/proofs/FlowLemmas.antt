@@ -8,9 +8,10 @@ use Rattle.aeth_group.specs.Members.{group_at, groups_of, has_at}
 use Rattle.aeth_header.specs.Layout.{queue_bits}
 use Rattle.aeth_report.specs.{Carries.IsSendable, Channels.opposite, Design.grant_at, Flows.Flow}
 use Rattle.aeth_report.specs.{Flows.Run, Flows.flow_of, Flows.sessions_in, Sound.IsSound}
-use Rattle.aeth_report.specs.{declared.session.Session.Session}
+use Rattle.aeth_report.specs.{declared.session.Session.Session, Sessions.session_of}
+use Rattle.aeth_report.specs.{SessionList.listed_at, SessionList.place_at}
 use Rattle.aeth_report.proofs.{ClosingLemmas.stay_of, FlowPlaces.IsFlowOf, OneFlit.session-paths}
-use Rattle.aeth_report.proofs.{StaysAlone.at-Contains}
+use Rattle.aeth_report.proofs.{StaysAlone.at-Contains, SessionNumbers.listed-among}
 use Rattle.aeth_accepted.specs.Inputs.{AreAccepted, Inputs, design_of, row_at, run_of}
 use Rattle.aeth_fabric.proofs.PathHops.{route_fits, there}
 use Rattle.aeth_fabric.proofs.SessionRows.{fits_remote, leads}
@@ -77,8 +78,11 @@ pub flows-fit : (inputs : Inputs) → AreAccepted inputs → IsSound (run_of inp
     (flow : Flow) → IsFlowOf (run_of inputs) c flow → IsFitting (run_of inputs) flow
 flows-fit inputs accepted sound c flow of =
     let run = run_of inputs in
-    let has = at-Contains (sessions_in run of.channel.conn.0) of.number of.session of.session_at in
+    let channel = (listed_at run c).channel in
+    let session = session_of run.spans (listed_at run c).stay in
+    let has = at-Contains (sessions_in run channel.conn.0) (place_at run c) session
+    (listed-among run c of.known) in
     subst (IsFitting run) of.is (record {
-      sendable = session-sendable inputs accepted sound of.channel of.session has;
-      known = session-known inputs accepted sound of.channel of.session has;
+      sendable = session-sendable inputs accepted sound channel session has;
+      known = session-known inputs accepted sound channel session has;
     })

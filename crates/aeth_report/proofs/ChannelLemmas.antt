@@ -4,11 +4,13 @@ use Rattle.std.proofs.Common.{true, refl, ◌==◌, eq-eqb, eqb-true}
 use Rattle.std.proofs.lemmas.Bool.{and_from, and_parts}
 use Rattle.std.proofs.lemmas.List.Elements.{All-contains, All-contains_itself}
 use Rattle.std.specs.List.{All, range_with_len}
-use Rattle.aeth_base.specs.{declared.ids.Channel.Channel, declared.ids.Side.TheVariants.Back}
-use Rattle.aeth_base.specs.{declared.ids.Side.TheVariants.Fwd, Sides.same_side}
+use Rattle.aeth_base.specs.declared.ids.Channel.{Channel}
+use Rattle.aeth_base.specs.declared.ids.Side.{Side, TheVariants.Back, TheVariants.Fwd}
+use Rattle.aeth_base.specs.Sides.{same_side}
 use Rattle.aeth_base.proofs.SideLemmas.{same_side-is, same_side-itself}
-use Rattle.aeth_base.proofs.Members.{Contains-cases, Contains-map, Contains-nil, flat_map-Contains}
-use Rattle.aeth_base.proofs.Ranges.{All-range}
+use Rattle.aeth_base.proofs.Members.{Contains-cases, Contains-flat_map, Contains-here, Contains-map}
+use Rattle.aeth_base.proofs.Members.{Contains-nil, Contains-there, flat_map-Contains}
+use Rattle.aeth_base.proofs.Ranges.{All-range, Contains-range}
 use Rattle.aeth_trace.specs.Channels.{is_channel}
 use Rattle.aeth_report.specs.{Channels.channels_of, Channels.channels_with, Log.ChannelData}
 
@@ -35,6 +37,25 @@ channels_of-known connections channel has =
     let below = All-contains (λ c. c < connections) range found.0 (All-range connections) found.1 in
     let same = of_connection found.0 channel found.2 in
     omega arith
+
+-- And all of these are there.
+each_side : (c : ℕ) (side : Side)
+    → Contains (channels_with c) (record { conn = record { 0 = c }; side = side })
+each_side c Fwd =
+    Contains-here (record { conn = record { 0 = c }; side = Fwd })
+    (record { conn = record { 0 = c }; side = Back } ∷ [])
+each_side c Back =
+    let fwd : Channel = record { conn = record { 0 = c }; side = Fwd } in
+    let back : Channel = record { conn = record { 0 = c }; side = Back } in
+    Contains-there fwd (back ∷ []) back (Contains-here back [])
+
+pub known-channels_of : (connections : ℕ) (channel : Channel) → channel.conn.0 < connections
+    → Contains (channels_of connections) channel
+known-channels_of connections channel known =
+    let c = channel.conn.0 in
+    Contains-flat_map channels_with (range_with_len 0 connections) c channel
+    (Contains-range 0 connections c (omega arith) (omega (arith, known)))
+    (each_side c channel.side)
 
 -- So are those of a log whose channels these are.
 pub log-known : (connections : ℕ) (log : List ChannelData)

@@ -1,13 +1,15 @@
--- Flows by their numbers: flow number n is a session of a channel, and no other.
-use Rattle.std.proofs.Common.{◌≡◌, ℕ, zero, suc, ◌+◌, length, take, Some, slice_get, sym, ap, arith}
-use Rattle.std.proofs.lemmas.Option.{same_Some}
+-- Channels and flows by their numbers: a channel stands once among all, and flow number n is that
+-- of session n.
+use Rattle.std.proofs.Common.{◌≡◌, ◌<◌, ◌∙◌, ℕ, zero, suc, ◌+◌, length, take, Some, slice_get, sym}
+use Rattle.std.proofs.Common.{ap, arith}
+use Rattle.std.proofs.lemmas.Option.{get_or_from_slice_get, same_Some, slice_get_within}
 use Rattle.std.specs.List.{flat_map, range_with_len}
 use Rattle.aeth_base.specs.declared.ids.Channel.{Channel}
 use Rattle.aeth_base.specs.declared.ids.Side.TheVariants.{Fwd, Back}
 use Rattle.aeth_trace.specs.Channels.{side_number}
-use Rattle.aeth_report.specs.declared.session.Session.{Session}
 use Rattle.aeth_report.specs.Channels.{channels_of, channels_with}
-use Rattle.aeth_report.specs.Flows.{Flow, Run, flow_of, flows_of, flows_on, sessions_in}
+use Rattle.aeth_report.specs.Flows.{Flow, Run}
+use Rattle.aeth_report.specs.SessionList.{flow_by, flows_of, listed_at, no_session, session_list}
 use Rattle.aeth_report.proofs.{Places.flat_map-place, Places.range-place, SessionMeetings.mapped_at}
 
 -- A channel of a connection stands at its place.
@@ -52,49 +54,18 @@ channels_of-once n i j channel other at_i at_j same =
     let number_two = again.number in
     omega arith
 
--- Flow number n is that of a channel's session.
+-- Flow number n is that of session n.
 pub record IsFlowOf (run : Run) (n : ℕ) (flow : Flow) : Type 0 where
-  pub place : ℕ
-  pub channel : Channel
-  pub number : ℕ
-  pub session : Session
-  pub at : slice_get (channels_of run.design.groups.connections) place ≡ Some channel
-  pub session_at : slice_get (sessions_in run channel.conn.0) number ≡ Some session
-  pub is : flow_of run channel session ≡ flow
-  pub counts : length
-      (flat_map (flows_on run) (take place (channels_of run.design.groups.connections)))
-      + number ≡ n
+  pub known : n < length (session_list run)
+  pub is : flow_by run (listed_at run n) ≡ flow
 
--- A flow by its number.
+-- So each flow is.
 pub flows_of-place : (run : Run) (n : ℕ) (flow : Flow) → slice_get (flows_of run) n ≡ Some flow
     → IsFlowOf run n flow
 flows_of-place run n flow at =
-    let channels = channels_of run.design.groups.connections in
-    let found = flat_map-place (flows_on run) channels n flow at in
-    let sessions = sessions_in run found.item.conn.0 in
-    let session = mapped_at (flow_of run found.item) sessions found.inner flow found.gives in
+    let all = session_list run in
+    let (session, there, is) = mapped_at (flow_by run) all n flow at in
     record {
-      place = found.place;
-      channel = found.item;
-      number = found.inner;
-      session = session.0;
-      at = found.at;
-      session_at = session.1;
-      is = session.2;
-      counts = found.number;
+      known = slice_get_within all n session there;
+      is = ap (flow_by run) (get_or_from_slice_get all n session no_session there) ∙ is;
     }
-
--- The same session of the same channel is the same flow.
-pub same_flow : (run : Run) (n m : ℕ) (flow other : Flow) (one : IsFlowOf run n flow)
-    (two : IsFlowOf run m other) → one.channel ≡ two.channel → one.number ≡ two.number → n ≡ m
-same_flow run n m flow other one two same numbers =
-    let connections = run.design.groups.connections in
-    let channels = channels_of connections in
-    let places : one.place ≡ two.place =
-    channels_of-once connections one.place two.place one.channel two.channel one.at two.at same in
-    let len : length (flat_map (flows_on run) (take one.place channels))
-    ≡ length (flat_map (flows_on run) (take two.place channels)) =
-    ap (λ k. length (flat_map (flows_on run) (take k channels))) places in
-    let count_one = one.counts in
-    let count_two = two.counts in
-    omega arith

@@ -8,6 +8,11 @@ pub mod SessionMeetings
 pub mod SessionOrder
 pub mod ClosingLemmas
 pub mod GrantLemmas
+pub mod ChannelSessions
+pub mod SessionPairs
+pub mod FilterPlaces
+pub mod SessionNumbers
+pub mod ListOrder
 pub mod FlowPlaces
 pub mod SessionsGone
 pub mod OneFlit

@@ -19,12 +19,13 @@ use Rattle.aeth_report.specs.{declared.session.Close.Close, declared.session.Ses
 use Rattle.aeth_report.specs.{Channels.opposite, Channels.other_side, Design.grant_at, Flows.Flow}
 use Rattle.aeth_report.specs.{Flows.Run, Flows.flow_of, Flows.server_of, Flows.sessions_in}
 use Rattle.aeth_report.specs.{Carries.IsCarried, Carries.injects, Carries.returns, Carries.sends}
-use Rattle.aeth_report.specs.{Sessions.IsInUse, Sound.IsSound}
-use Rattle.aeth_report.proofs.ClosingLemmas.{lands_by_finish, session-delay}
-use Rattle.aeth_report.proofs.FlowPlaces.{IsFlowOf, flows_of-place, same_flow}
-use Rattle.aeth_report.proofs.GrantLemmas.{EntersIn, entered_once}
-use Rattle.aeth_report.proofs.SessionMeetings.{sessions_alone, sessions_meet}
-use Rattle.aeth_report.proofs.StaysAlone.{at-Contains}
+use Rattle.aeth_report.specs.{Sessions.IsInUse, Sessions.session_of, Sound.IsSound}
+use Rattle.aeth_report.specs.{SessionList.flow_by, SessionList.listed_at, SessionList.place_at}
+use Rattle.aeth_report.proofs.{ClosingLemmas.lands_by_finish, ClosingLemmas.session-delay}
+use Rattle.aeth_report.proofs.{FlowPlaces.IsFlowOf, FlowPlaces.flows_of-place, GrantLemmas.EntersIn}
+use Rattle.aeth_report.proofs.{GrantLemmas.entered_once, SessionMeetings.sessions_alone}
+use Rattle.aeth_report.proofs.{SessionMeetings.sessions_meet, SessionNumbers.listed-among}
+use Rattle.aeth_report.proofs.{SessionNumbers.one_number, StaysAlone.at-Contains}
 
 -- The opposite of the opposite channel is the channel.
 pub opposite-opposite : (channel : Channel) → opposite (opposite channel) ≡ channel
@@ -204,22 +205,25 @@ module _ (run : Run) (sound : IsSound run) where
         s e one.session_at there used_s used_e in
         (same.0, numbers, same.1)
 
-    -- What is known of a carried flit: its channel and session, for which the link is reserved, and
-    -- that it lands before the session finishes.
+    -- What is known of a carried flit: its session, for which the link is reserved, and that it
+    -- lands before the session finishes.
     pub record IsKnown (c i u : ℕ) (flow : Flow) : Type 0 where
       pub of : IsFlowOf run c flow
-      pub reserved : IsReservedFor of.channel of.number of.session i u
-      pub way : IsOnItsWay of.channel of.session t
+      pub reserved : IsReservedFor (listed_at run c).channel (place_at run c)
+          (session_of run.spans (listed_at run c).stay) i u
+      pub way : IsOnItsWay (listed_at run c).channel
+          (session_of run.spans (listed_at run c).stay) t
 
     pub carried-known : (c i u : ℕ) (flow : Flow) → IsCarried run l t c i u flow
         → IsKnown c i u flow
     carried-known c i u flow carried =
         let of = flows_of-place run c flow carried.flow_is in
-        let channel = of.channel in
-        let session = of.session in
-        let has = at-Contains (sessions_in run channel.conn.0) of.number session of.session_at in
+        let channel = (listed_at run c).channel in
+        let session = session_of run.spans (listed_at run c).stay in
+        let among = listed-among run c of.known in
+        let has = at-Contains (sessions_in run channel.conn.0) (place_at run c) session among in
         let links = run.design.chip.links in
-        let own = flow_of run channel session in
+        let own = flow_by run (listed_at run c) in
         let is = sym of.is in
         let place : slice_get own.path i ≡ Some (record { 0 = l }) =
         subst (λ (f : Flow). slice_get f.path i ≡ Some (record { 0 = l })) is carried.place in
@@ -231,7 +235,7 @@ module _ (run : Run) (sound : IsSound run) where
         record {
           of = of;
           reserved = record {
-            session_at = of.session_at;
+            session_at = among;
             injected = injected;
             place = place;
             time = time;
@@ -243,10 +247,10 @@ module _ (run : Run) (sound : IsSound run) where
     pub one_flit : (c i u d j v : ℕ) (flow other : Flow) → IsCarried run l t c i u flow
         → IsCarried run l t d j v other → (c ≡ d) × (i ≡ j)
     one_flit c i u d j v flow other carried too =
-        let known = carried-known c i u flow carried in
-        let again = carried-known d j v other too in
-        let one = known.of in
-        let two = again.of in
-        let same = reserved_once one.channel two.channel one.number two.number i j u v one.session
-        two.session known.reserved again.reserved in
-        (same_flow run c d flow other one two same.0 same.1, same.2)
+        let one = carried-known c i u flow carried in
+        let two = carried-known d j v other too in
+        let p = listed_at run c in
+        let q = listed_at run d in
+        let same = reserved_once p.channel q.channel (place_at run c) (place_at run d) i j u v
+        (session_of run.spans p.stay) (session_of run.spans q.stay) one.reserved two.reserved in
+        (one_number run c d one.of.known two.of.known same.0 same.1, same.2)

@@ -20,7 +20,7 @@ use Rattle.aeth_clocked.specs.declared.flit.Flit.{Flit}
 use Rattle.aeth_header.specs.{Header.word_of, Layout.port_bits, Layout.queue_bits}
 use Rattle.aeth_header.specs.{Layout.route_bits, declared.header.Header.Header}
 use Rattle.aeth_server.specs.{PrivateServer.credited, PrivateServer.sent, Shape.HasPaths}
-use Rattle.aeth_report.specs.Flows.{Flow, Run, flows_of}
+use Rattle.aeth_report.specs.{Flows.Flow, Flows.Run, SessionList.flows_of}
 
 -- How many words a flow's flit of a cycle has.
 abbrev pub sends : Flow → ℕ → ℕ

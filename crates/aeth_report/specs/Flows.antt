@@ -5,10 +5,9 @@
 --   close_at, server_of      the private server of a session
 --   is_within, words_in, values_of      its words
 --   Flow, flow_of      a session of a channel as a flow
---   flows_on, flows_of      those of a channel, and of all channels
+--   flows_on      those of a channel
 -- This project's own.
-use Rattle.std.proofs.Common.{ℕ, ◌+◌, ◌&&◌, nat_le, nat_lt, Bool, List, filter, flat_map, map}
-use Rattle.std.proofs.Common.{unwrap_or}
+use Rattle.std.proofs.Common.{ℕ, ◌+◌, ◌&&◌, nat_le, nat_lt, Bool, List, filter, map, unwrap_or}
 use Rattle.aeth_base.specs.Limits.{max_path_delay}
 use Rattle.aeth_base.specs.declared.ids.{Channel.Channel, LinkId.LinkId}
 use Rattle.aeth_server.specs.{PrivateServer.PrivateServer, Shape.buffer_of}
@@ -16,9 +15,8 @@ use Rattle.aeth_trace.specs.{Receivers.pull_at, Spans.SpanData, Words.words_on}
 use Rattle.aeth_trace.specs.{declared.receivers.PullRow.PullRow}
 use Rattle.aeth_trace.specs.{declared.switches.SwitchRow.SwitchRow, declared.words.WordRow.WordRow}
 use Rattle.aeth_report.specs.{declared.session.Close.Close, declared.session.Session.Session}
-use Rattle.aeth_report.specs.{Channels.channels_of, Channels.opposite, Design.Design}
-use Rattle.aeth_report.specs.{Design.grant_at, Design.remote_at, Design.shape_at}
-use Rattle.aeth_report.specs.{Routes.route_along, Sessions.sessions_of}
+use Rattle.aeth_report.specs.{Channels.opposite, Design.Design, Design.grant_at, Design.remote_at}
+use Rattle.aeth_report.specs.{Design.shape_at, Routes.route_along, Sessions.sessions_of}
 
 -- What a run is given: a design, how long its switches take, the rows of the three traces, and the
 -- number of cycles.
@@ -96,7 +94,3 @@ flow_of run channel session =
 -- The flows of a channel, in the order of its sessions.
 abbrev pub flows_on : Run → Channel → List Flow
 flows_on run channel = map (flow_of run channel) (sessions_in run channel.conn.0)
-
--- All flows, in the order of channels and sessions.
-abbrev pub flows_of : Run → List Flow
-flows_of run = flat_map (flows_on run) (channels_of run.design.groups.connections)

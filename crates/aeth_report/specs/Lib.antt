@@ -7,6 +7,7 @@ pub mod Design
 pub mod Routes
 pub mod Sessions
 pub mod Flows
+pub mod SessionList
 pub mod Carries
 pub mod RunLog
 pub mod Sound

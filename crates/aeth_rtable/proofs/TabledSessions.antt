@@ -2,8 +2,7 @@
 use Rattle.std.proofs.Common.{◌≡◌, ◌≤◌, ◌<◌, ◌+◌, ◌%◌, ◌∙◌, ℕ, suc, true, eqb, List, Contains}
 use Rattle.std.proofs.Common.{Option, Some, None, length, slice_get, refl, sym, ap, subst, arith}
 use Rattle.std.proofs.Common.{IfSome, option_map, unwrap_or, eq-eqb, eqb-true}
-use Rattle.std.proofs.lemmas.{Bool.and_parts, List.Folds.list_any_at, Option.get_or_from_slice_get}
-use Rattle.std.proofs.lemmas.{Option.same_Some, Option.slice_get_within}
+use Rattle.std.proofs.lemmas.{Bool.and_parts, List.Folds.list_any_at, Option.same_Some}
 use Rattle.std.specs.List.{list_any}
 use Rattle.aeth_base.proofs.Lists.{option_map-some}
 use Rattle.aeth_base.specs.declared.ids.{LinkId.LinkId, RouterId.RouterId}
@@ -13,27 +12,28 @@ use Rattle.aeth_group.specs.Members.{group_at, groups_of, has_at, has_unit}
 use Rattle.aeth_group.specs.declared.grant.Grant.{Grant}
 use Rattle.aeth_group.proofs.MemberLemmas.{connections-groups_of}
 use Rattle.aeth_report.specs.{Design.grant_at, Flows.Run, Routes.port_of, Sessions.Switch}
-use Rattle.aeth_report.specs.{Sessions.close_by}
+use Rattle.aeth_report.specs.{Sessions.close_by, SessionList.ChannelSession}
+use Rattle.aeth_report.specs.{SessionList.session_list, SessionList.listed_at}
 use Rattle.aeth_report.proofs.SessionMeetings.{IsInTables as IsStayInTables, finish_by}
+use Rattle.aeth_report.proofs.SessionNumbers.{numbered}
 use Rattle.aeth_tables.proofs.ListLaws.{place_in}
 use Rattle.aeth_refinement.specs.{Fabric.AtRouter, Tables.AreEntries, Tables.HasPassing}
 use Rattle.aeth_router.specs.{Router.last_wire, Rows.link_in}
 use Rattle.aeth_accepted.specs.Inputs.{AreAccepted, Inputs, design_of, run_of}
 use Rattle.aeth_accepted.proofs.{GivenGrants.connection-known, OwnGrants.channel_of}
 use Rattle.aeth_accepted.proofs.{OwnGrants.grant-own, SoundRuns.grant_is}
-use Rattle.aeth_fabric.specs.{Fabric.Placed, Fabric.entered_by, Fabric.fabric_of, Fabric.flow_in}
-use Rattle.aeth_fabric.specs.{Fabric.no_placed, Fabric.placed_at, Fabric.placed_of, Fabric.stays_in}
+use Rattle.aeth_fabric.specs.{Fabric.entered_by, Fabric.fabric_of, Fabric.flow_in, Fabric.stays_in}
 use Rattle.aeth_fabric.specs.{Paths.wires_along, Wiring.start_of}
-use Rattle.aeth_fabric.proofs.{ApartWires.past, Numbers.numbered}
+use Rattle.aeth_fabric.proofs.ApartWires.{past}
 use Rattle.aeth_rtable.specs.{InForce.rows_in_force, InForce.use_in_force, Sending.from_rows}
 use Rattle.aeth_rtable.proofs.{InForce.used-covered, PathEntries.at-enters, SendingLaws.link-row}
 use Rattle.aeth_rtable.proofs.{RowsInForce.from-starts, RowsInForce.links_known}
 use Rattle.aeth_rtable.proofs.{RowsInForce.row-there, RowsInForce.sent, RowsInForce.tables}
 
-module _ (run : Run) (placed : Placed) (t : ℕ) where
+module _ (run : Run) (session : ChannelSession) (t : ℕ) where
   -- A session whose stay is in the tables is in them itself, until the end of the run at least.
-  entered : IsStayInTables run.design.groups run.spans placed.stay t
-      → entered_by run placed.stay.opening ≤ t
+  entered : IsStayInTables run.design.groups run.spans session.stay t
+      → entered_by run session.stay.opening ≤ t
   entered covers =
       let openings : (o : Option Switch)
       → IfSome o (λ switch. finish_by run.design.groups run.spans switch ≤ t)
@@ -41,18 +41,18 @@ module _ (run : Run) (placed : Placed) (t : ℕ) where
         | None ↦ λ goes. omega arith
         | Some switch ↦ λ goes. goes
       ] in
-      openings placed.stay.opening covers.opened_by
+      openings session.stay.opening covers.opened_by
 
-  unfinished : t < run.cycles → IsStayInTables run.design.groups run.spans placed.stay t
-      → t < (flow_in run placed).server.finish
+  unfinished : t < run.cycles → IsStayInTables run.design.groups run.spans session.stay t
+      → t < (flow_in run session).server.finish
   unfinished within covers =
       let closings : (o : Option Switch)
       → IfSome o (λ switch. t < finish_by run.design.groups run.spans switch)
-      → t < (unwrap_or (option_map (close_by run.spans) o) (past run placed)).fin = elim [
+      → t < (unwrap_or (option_map (close_by run.spans) o) (past run session)).fin = elim [
         | None ↦ λ below. omega (arith, within)
         | Some switch ↦ λ below. below
       ] in
-      closings placed.stay.closing covers.closed_by
+      closings session.stay.closing covers.closed_by
 
 module _ (inputs : Inputs) (accepted : AreAccepted inputs) (t : ℕ) where
   abbrev run : Run
@@ -66,18 +66,20 @@ module _ (inputs : Inputs) (accepted : AreAccepted inputs) (t : ℕ) where
   used = use_in_force (run_of inputs).spans t inputs.switches
 
   -- A session is in the tables, and goes on from a wire to the next.
-  record Goes (placed : Placed) (i m l : ℕ) : Type 0 where
-    since : entered_by (run_of inputs) placed.stay.opening ≤ t
-    unfinished : t < (flow_in (run_of inputs) placed).server.finish
-    here : slice_get (wires_along inputs.chip.links (flow_in (run_of inputs) placed).path) i ≡ Some m
-    next : slice_get (wires_along inputs.chip.links (flow_in (run_of inputs) placed).path) (suc i)
+  record Goes (session : ChannelSession) (i m l : ℕ) : Type 0 where
+    since : entered_by (run_of inputs) session.stay.opening ≤ t
+    unfinished : t < (flow_in (run_of inputs) session).server.finish
+    here : slice_get (wires_along inputs.chip.links (flow_in (run_of inputs) session).path) i
+        ≡ Some m
+    next : slice_get (wires_along inputs.chip.links (flow_in (run_of inputs) session).path) (suc i)
         ≡ Some l
     slot : ℕ
-    uses : list_any (λ own. eqb slot own) (flow_in (run_of inputs) placed).server.shape.slots ≡ true
+    uses : list_any (λ own. eqb slot own) (flow_in (run_of inputs) session).server.shape.slots
+        ≡ true
     time : (slot + suc i) % inputs.chip.slots ≡ t % inputs.chip.slots
 
-  passing : (c i m l : ℕ) → c < length (placed_of (run_of inputs))
-      → Goes (placed_at (run_of inputs) c) i m l → HasPassing (fabric_of inputs) t m l
+  passing : (c i m l : ℕ) → c < length (session_list (run_of inputs))
+      → Goes (listed_at (run_of inputs) c) i m l → HasPassing (fabric_of inputs) t m l
   passing c i m l known goes = record {
     number = c;
     place = i;
@@ -99,12 +101,12 @@ module _ (inputs : Inputs) (accepted : AreAccepted inputs) (t : ℕ) where
 
     -- A session of a grant's channel is in the tables.
     record IsTabled : Type 0 where
-      placed : Placed
+      session : ChannelSession
       number : ℕ
-      is_placed : placed_at (run_of inputs) number ≡ placed
-      known : number < length (placed_of (run_of inputs))
-      covers : IsStayInTables (groups_of inputs.app) (run_of inputs).spans placed.stay t
-      is_grant : grant_at (design_of inputs) placed.channel placed.stay.group ≡ grant
+      is_listed : listed_at (run_of inputs) number ≡ session
+      known : number < length (session_list (run_of inputs))
+      covers : IsStayInTables (groups_of inputs.app) (run_of inputs).spans session.stay t
+      is_grant : grant_at (design_of inputs) session.channel session.stay.group ≡ grant
 
     is_tabled : IsTabled
     is_tabled =
@@ -118,13 +120,12 @@ module _ (inputs : Inputs) (accepted : AreAccepted inputs) (t : ℕ) where
         let channel = channel_of grant in
         let below = connection-known inputs used conn parts.0 in
         let count = connections-groups_of inputs.app in
-        let (number, there) = numbered run channel i covered.stay (omega (arith, below, count)) at in
-        let placed : Placed = record { channel = channel; place = i; stay = covered.stay } in
+        let found = numbered run channel i covered.stay (omega (arith, below, count)) at in
         record {
-          placed = placed;
-          number = number;
-          is_placed = get_or_from_slice_get (placed_of run) number placed no_placed there;
-          known = slice_get_within (placed_of run) number placed there;
+          session = record { channel = channel; stay = covered.stay };
+          number = found.number;
+          is_listed = found.is;
+          known = found.known;
           covers = covered.covers;
           is_grant = ap (grant_at (design_of inputs) channel) (covered.group ∙ group)
               ∙ grant-own inputs.chip inputs.app inputs.plan accepted.design.plan_is.in_order grant has;
@@ -137,11 +138,11 @@ module _ (inputs : Inputs) (accepted : AreAccepted inputs) (t : ℕ) where
         → (start + suc i) % inputs.chip.slots ≡ t % inputs.chip.slots
         → HasPassing (fabric_of inputs) t m l
     grant-goes i m l start here next starts time =
-        let placed = is_tabled.placed in
+        let session = is_tabled.session in
         let same = sym is_tabled.is_grant in
-        let goes : Goes placed i m l = record {
-          since = entered run placed t is_tabled.covers;
-          unfinished = unfinished run placed t within is_tabled.covers;
+        let goes : Goes session i m l = record {
+          since = entered run session t is_tabled.covers;
+          unfinished = unfinished run session t within is_tabled.covers;
           here = subst (λ (g : Grant). slice_get (wires_along links g.path) i ≡ Some m) same here;
           next = subst (λ (g : Grant). slice_get (wires_along links g.path) (suc i) ≡ Some l) same
               next;
@@ -152,7 +153,7 @@ module _ (inputs : Inputs) (accepted : AreAccepted inputs) (t : ℕ) where
           time = time;
         } in
         passing is_tabled.number i m l is_tabled.known
-        (subst (λ (p : Placed). Goes p i m l) (sym is_tabled.is_placed) goes)
+        (subst (λ (p : ChannelSession). Goes p i m l) (sym is_tabled.is_listed) goes)
 
   -- Where a wire is sent on from another, a session that is in the tables goes so.
   module _ (within : t < inputs.cycles) (m l r : ℕ)

@@ -14,8 +14,8 @@ use Rattle.aeth_trace.specs.{Limits.usual_pull, Receivers.pull_at, Receivers.pul
 use Rattle.aeth_trace.specs.{Words.words_on, declared.receivers.PullRow.PullRow}
 use Rattle.aeth_trace.specs.{declared.words.WordRow.WordRow}
 use Rattle.aeth_accepted.specs.Inputs.{Inputs}
-use Rattle.aeth_running.{proofs.ChannelNumbers.numbers-tell, proofs.RowFilters.filter-within}
-use Rattle.aeth_running.{proofs.RowFilters.rows-by, specs.Network.offers_in, specs.Network.takes_in}
+use Rattle.aeth_running.{proofs.ChannelNumbers.numbers-tell, proofs.InOrder.filter-within}
+use Rattle.aeth_running.{proofs.InOrder.below-next, specs.Network.offers_in, specs.Network.takes_in}
 use Rattle.aeth_stimuli.specs.Stimuli.{Offer, Take, offer_of, stimuli_of, take_of}
 
 -- Of rows within so many cycles those in one, and of these the ones of a channel, are the channel's rows
@@ -110,4 +110,4 @@ module _ (inputs : Inputs) (t : ℕ) (early : t < inputs.cycles) (channel : Chan
       ap (λ (some : List Take). fold says (pull_before inputs channel t) some) takes
       ∙ fold-map says take_of (pull_before inputs channel t) kept
       ∙ sym (fold-append (λ (pull : ℕ) (row : PullRow). row.pull) usual_pull before kept)
-      ∙ ap (last_pull usual_pull) (sym (rows-by (λ (row : PullRow). row.cycle) t mine rises))
+      ∙ ap (last_pull usual_pull) (sym (below-next (λ (row : PullRow). row.cycle) t mine rises))

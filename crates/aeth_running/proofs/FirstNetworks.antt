@@ -19,7 +19,7 @@ use Rattle.aeth_components.specs.{declared.lane.Lane.Lane}
 use Rattle.aeth_components.specs.{declared.making.RouterKind.TheVariants.ByHeader}
 use Rattle.aeth_refinement.specs.Accepted.{IsAccepted}
 use Rattle.aeth_accepted.specs.Inputs.{Inputs, run_of}
-use Rattle.aeth_fabric.specs.Fabric.{fabric_of, opposite_in, passage_of, placed_at, placed_of}
+use Rattle.aeth_fabric.specs.Fabric.{fabric_of, passage_of}
 use Rattle.aeth_schedule.specs.{Rooms.rooms_of, Switching.loaded_of, Values.values_of}
 use Rattle.aeth_invariant.proofs.{Routed.frames-but_tables, Running.runs-but_tables}
 use Rattle.aeth_invariant.specs.{Beginning.AreEmpty, Events.AreEvents, Routed.without_table}
@@ -32,6 +32,7 @@ use Rattle.aeth_running.proofs.{ChannelStates.Unused, NetworkLaws.BeginningLaws,
 use Rattle.aeth_running.proofs.{RouterTables.but-first, RouterTables.tables-first}
 use Rattle.aeth_running.specs.{Network.first_network, Network.routed_components, Routing.Routing}
 use Rattle.aeth_running.specs.{Running.IsRunning}
+use Rattle.aeth_report.specs.SessionList.{session_list, listed_at, partner_of, place_at}
 
 -- What stands at a place of a list of one item.
 replicate-at : {X : Type 0} (size i : ℕ) (x y : X) → slice_get (replicate size x) i ≡ Some y → x ≡ y
@@ -65,9 +66,10 @@ module _ (inputs : Inputs) where
       (loaded-are : AreEvents (fabric_of inputs) 0 (loaded_of inputs)) where
     begins : AreEmpty (fabric_of inputs) made
     begins = laws.chips_begin inputs.chip is_chip (rooms_of inputs) (rooms-counted inputs)
-        (length (placed_of (run_of inputs)))
-        (λ c. passage_of (run_of inputs) (placed_at (run_of inputs) c))
-        (opposite_in (run_of inputs)) is-over have-rooms lanes words
+        (length (session_list (run_of inputs)))
+        (λ c. passage_of (run_of inputs) (place_at (run_of inputs) c)
+        (listed_at (run_of inputs) c))
+        partner_of is-over have-rooms lanes words
         (λ number lane at. sym (ap (λ (one : Lane). one.fin)
         (replicate-at (2 * length inputs.app.connections) number no_lane lane at)))
 

@@ -14,10 +14,11 @@ use Rattle.aeth_trace.specs.{Channels.is_channel, Words.words_on, declared.words
 use Rattle.aeth_report.specs.Flows.{close_at, server_of, values_of, words_in}
 use Rattle.aeth_report.specs.RunLog.{due_of}
 use Rattle.aeth_report.specs.declared.{log.Landing.Landing, session.Session.Session}
+use Rattle.aeth_report.proofs.ListOrder.{early-first}
 use Rattle.aeth_accepted.specs.Inputs.{AreAccepted, Inputs, run_of}
 use Rattle.aeth_schedule.specs.{Values.before_of, declared.going.Going.Going}
 use Rattle.aeth_running.specs.FirstLog.{first_row, rows_of}
-use Rattle.aeth_running.proofs.InOrder.{below, below-both, below-first, between-are, between-count}
+use Rattle.aeth_running.proofs.InOrder.{below, below-both, between-are, between-count}
 use Rattle.aeth_stimuli.specs.Sessions.{SessionGoing, as_going, going_of}
 use Rattle.aeth_stimuli.proofs.WordWindows.{below-none}
 
@@ -100,7 +101,7 @@ module _ (inputs : Inputs) (accepted_are : AreAccepted inputs) (channel : Channe
       (drop (before-is inputs.words channel session.go q) all))
       ∙ between-are cycle session.go (min until inputs.cycles) all ordered
       ∙ between
-      ∙ below-first cycle inputs.cycles rows rows-ordered
+      ∙ early-first cycle inputs.cycles rows rows-ordered
       ∙ ap (λ n. take n rows) (sym counted-is)
 
   -- The cycles of the session's words are those that its server accepts.

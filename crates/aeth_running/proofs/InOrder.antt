@@ -1,14 +1,15 @@
--- Lists in the order of a number: what is below a number comes first.
-use Rattle.std.proofs.Common.{◌≡◌, ◌≤◌, ◌∙◌, ℕ, suc, ◌+◌, ◌-◌, Bool, true, List, [], ◌∷◌, ◌++◌}
-use Rattle.std.proofs.Common.{Some, drop, filter, length, map, min, slice_get, take, refl, sym, ap}
-use Rattle.std.proofs.Common.{inl, inr, arith, ◌==◌, ◌&&◌, nat_le, nat_lt, eq-eqb, le-leb, le-ltb}
-use Rattle.std.proofs.Common.{lt-ltb, ne_eqb}
+-- Lists in the order of a number, what of them is below a number, and what filters keep.
+use Rattle.std.proofs.Common.{◌≡◌, ◌≤◌, ◌∙◌, ℕ, ◌+◌, ◌-◌, Bool, true, List, [], ◌∷◌, ◌++◌, Some}
+use Rattle.std.proofs.Common.{drop, filter, length, map, min, slice_get, take, refl, sym, ap, inl}
+use Rattle.std.proofs.Common.{inr, arith, ◌==◌, ◌&&◌, nat_le, nat_lt, eq-eqb, le-leb, le-ltb}
+use Rattle.std.proofs.Common.{lt-ltb, ltb-true, ne_eqb}
 use Rattle.std.proofs.lemmas.Bool.{cases_Bool, cases_lt, cases_order, lt-leb}
 use Rattle.std.proofs.lemmas.List.{Elements.filter_passes, Kept.IsNonDecreasingBy-filter}
 use Rattle.std.proofs.lemmas.Option.{get_or_from_slice_get, slice_get_within}
 use Rattle.std.specs.List.Sorted.{IsNonDecreasingBy}
 use Rattle.aeth_stimuli.proofs.WordWindows.{below-none}
 use Rattle.aeth_trace.proofs.OrderLemmas.{first_least, later_rise}
+use Rattle.aeth_report.proofs.ListOrder.{early-first, early-within}
 
 -- What a filter keeps passes the test.
 pub passes-at : {X : Type 0} (test : X → Bool) (xs : List X) (i : ℕ) (x : X)
@@ -17,6 +18,22 @@ passes-at test xs i x at =
     let kept = filter test xs in
     ap test (sym (get_or_from_slice_get kept i x x at))
     ∙ filter_passes test xs i x (slice_get_within kept i x at)
+
+-- A filter whose items pass another test anyway.
+pub filter-within : {X : Type 0} (p q : X → Bool) → ((x : X) → p x ≡ true → q x ≡ true)
+    → (xs : List X) → filter p (filter q xs) ≡ filter p xs
+filter-within p q passes [] = refl
+filter-within {X} p q passes (x ∷ xs) =
+    let rest = filter-within p q passes xs in
+    elim (cases_Bool (p x)) [
+      | inl one ↦
+          let two = passes x one in
+          rw (two, one) (ap (λ (ys : List X). x ∷ ys) rest)
+      | inr one ↦ elim (cases_Bool (q x)) [
+        | inl two ↦ rw (two, one) rest
+        | inr two ↦ rw (two, one) rest
+      ]
+    ]
 
 -- What a filter keeps is shown in the same way where the test passes.
 pub map-kept : {X Y : Type 0} (f g : X → Y) (test : X → Bool) (xs : List X)
@@ -67,34 +84,9 @@ module _ {X : Type 0} (number : X → ℕ) where
   -- What is below a number is below each greater one.
   pub below-wider : (a b : ℕ) (xs : List X) → a ≤ b
       → filter (below a) (filter (below b) xs) ≡ filter (below a) xs
-  below-wider a b [] less = refl
-  below-wider a b (x ∷ xs) less =
-      let rest = below-wider a b xs less in
-      elim (cases_lt (number x) a) [
-        | inl under ↦ rw (
-          lt-ltb (number x) b (omega arith),
-          lt-ltb (number x) a under,
-        ) (ap (λ (ys : List X). x ∷ ys) rest)
-        | inr over ↦ elim (cases_Bool (nat_lt (number x) b)) [
-          | inl is ↦ rw (is, le-ltb (number x) a over) rest
-          | inr isnt ↦ rw (isnt, le-ltb (number x) a over) rest
-        ]
-      ]
-
-  -- What is below a number comes first, and then the rest.
-  pub below-first : (t : ℕ) (xs : List X) → IsNonDecreasingBy number xs
-      → filter (below t) xs ≡ take (length (filter (below t) xs)) xs
-  below-first t [] order = refl
-  below-first t (x ∷ xs) order = elim (cases_lt (number x) t) [
-    | inl less ↦ rw (lt-ltb (number x) t less)
-        (ap (λ (ys : List X). x ∷ ys) (below-first t xs (later_rise number x xs order)))
-    | inr more ↦
-        let least = first_least number x xs order in
-        rw (
-          le-ltb (number x) t more,
-          below-none number t xs (λ k d within. let up = least k d within in omega arith),
-        ) refl
-  ]
+  below-wider a b xs less =
+      filter-within (below a) (below b) (λ x is.
+      let under = ltb-true (number x) a is in lt-ltb (number x) b (omega (arith, under, less))) xs
 
   -- What isn't below it is what follows.
   pub rest-behind : (t : ℕ) (xs : List X) → IsNonDecreasingBy number xs
@@ -184,24 +176,16 @@ module _ {X : Type 0} (number : X → ℕ) where
       ap (λ (ys : List X). take (length (filter (below b) xs) - length (filter (below a) xs)) ys)
       (sym behind)
       ∙ ap (λ n. take n (filter (λ x. nat_le a (number x)) xs)) (sym (between-count a b xs))
-      ∙ sym (below-first b (filter (λ x. nat_le a (number x)) xs) sorted)
+      ∙ sym (early-first number b (filter (λ x. nat_le a (number x)) xs) sorted)
 
   -- Behind what is below a number nothing is.
   pub past-below : (t : ℕ) (xs : List X) → IsNonDecreasingBy number xs → (j : ℕ) (x : X)
       → slice_get xs j ≡ Some x → length (filter (below t) xs) ≤ j → t ≤ number x
-  past-below t [] order j x at past = absurd (cc at)
-  past-below t (y ∷ ys) order j x at past = elim (cases_lt (number y) t) [
-    | inr more ↦
-        let within = slice_get_within (y ∷ ys) j x at in
-        let same = ap number (get_or_from_slice_get (y ∷ ys) j x x at) in
-        let up = order 0 j x (omega arith) within in
-        omega arith
+  past-below t xs order j x at past = elim (cases_lt (number x) t) [
     | inl less ↦
-        let behind : suc (length (filter (below t) ys)) ≤ j = rw (lt-ltb (number y) t less) at past in
-        let rest : (k : ℕ) → j ≡ suc k → t ≤ number x = λ k is.
-        past-below t ys (later_rise number y ys order) k x
-        (sym (ap (slice_get (y ∷ ys)) is) ∙ at) (omega arith) in
-        rest (j - 1) (omega arith)
+        let within = early-within number t xs j x order at less in
+        absurd (omega (arith, within, past))
+    | inr more ↦ more
   ]
 
   -- Those from a number on and below two others.

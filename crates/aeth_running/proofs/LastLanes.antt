@@ -11,7 +11,7 @@ use Rattle.aeth_server.specs.PrivateServer.{PrivateServer, landed, taken}
 use Rattle.aeth_trace.specs.Channels.{channel_number}
 use Rattle.aeth_report.specs.{Flows.close_at, Flows.sessions_in, declared.session.Session.Session}
 use Rattle.aeth_report.specs.{Sound.IsSound}
-use Rattle.aeth_report.proofs.SessionMeetings.{mapped_at}
+use Rattle.aeth_report.proofs.{SessionMeetings.mapped_at, ListOrder.early-first}
 use Rattle.aeth_components.specs.declared.lane.Lane.{Lane}
 use Rattle.aeth_refinement.specs.Fabric.{server_at}
 use Rattle.aeth_accepted.specs.Inputs.{Inputs, run_of}
@@ -24,7 +24,7 @@ use Rattle.aeth_stimuli.specs.Sessions.{IsBefore, SessionGoing, as_going, channe
 use Rattle.aeth_running.specs.{Network.first_network, Network.played, Running.IsLastOf}
 use Rattle.aeth_running.specs.{Running.IsLatest, Running.IsRunning, Told.last_lanes}
 use Rattle.aeth_running.specs.{Routing.Routing}
-use Rattle.aeth_running.proofs.InOrder.{below, below-first, passes-at, past-below}
+use Rattle.aeth_running.proofs.InOrder.{below, passes-at, past-below}
 use Rattle.aeth_running.proofs.Replaced.{lane_before, last-lanes-are}
 use Rattle.aeth_running.proofs.SessionCycles.{HasNumber, ended-server, has-number, is-among}
 use Rattle.aeth_running.proofs.SessionCycles.{is-over, sessions-ordered}
@@ -77,7 +77,7 @@ module _ (inputs : Inputs) (routing : Routing) (sound : IsSound (run_of inputs))
   goer-at i session at =
       taken-at (length goers) sessions i session
       (ap (λ (list : List Session). slice_get list i)
-      (sym (below-first session_go inputs.cycles sessions
+      (sym (early-first session_go inputs.cycles sessions
       (sessions-ordered inputs sound channel.conn.0 apart))) ∙ at)
 
   -- Those that follow go past the end of the run.

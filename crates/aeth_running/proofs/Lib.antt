@@ -40,7 +40,6 @@ pub mod RestingParts
 pub mod RestingStates
 pub mod RoutedNetworks
 pub mod RouterTables
-pub mod RowFilters
 pub mod RunningCycles
 pub mod SessionCycles
 pub mod SessionTold

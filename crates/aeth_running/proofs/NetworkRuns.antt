@@ -1,11 +1,10 @@
 -- The network of accepted inputs runs, before each cycle and behind the last.
-use Rattle.std.proofs.Common.{◌≡◌, ◌≤◌, ◌<◌, ◌∙◌, ◌+◌, ◌*◌, ℕ, zero, suc, Some, filter, length, map}
-use Rattle.std.proofs.Common.{slice_get, ap, subst, arith, nat_lt, Option, unwrap_or}
+use Rattle.std.proofs.Common.{◌≡◌, ◌≤◌, ◌<◌, ◌∙◌, ◌+◌, ◌*◌, ℕ, zero, suc, Some, length, map}
+use Rattle.std.proofs.Common.{slice_get, subst, arith, take}
 use Rattle.aeth_base.specs.declared.ids.Channel.{Channel}
-use Rattle.aeth_trace.specs.Channels.{channel_number}
 use Rattle.aeth_components.specs.Components.{frames_of}
-use Rattle.aeth_report.specs.Flows.{sessions_in}
-use Rattle.aeth_report.specs.declared.session.{Close.Close, Session.Session}
+use Rattle.aeth_report.specs.{Flows.sessions_in, Sessions.go_of, declared.session.Session.Session}
+use Rattle.aeth_report.specs.{SessionList.listed_at, SessionList.session_list}
 use Rattle.aeth_refinement.specs.{Accepted.IsAccepted, Carried.words_from, Fabric.flow_at}
 use Rattle.aeth_refinement.specs.{Fabric.server_at}
 use Rattle.aeth_accepted.specs.Inputs.{AreAccepted, Inputs, run_of}
@@ -14,7 +13,7 @@ use Rattle.aeth_fabric.specs.Fabric.{fabric_of}
 use Rattle.aeth_schedule.specs.{Goings.goings_of, Rooms.rooms_of, Switching.loaded_of}
 use Rattle.aeth_schedule.specs.{Values.values_of}
 use Rattle.aeth_invariant.specs.{Events.AreEvents, Places.ArePlaced}
-use Rattle.aeth_running.proofs.FabricSessions.{goes-first, ordered, past_of, session-number}
+use Rattle.aeth_running.proofs.FabricSessions.{Before, Behind, Same, goes-first, ordered}
 use Rattle.aeth_running.proofs.FirstNetworks.{first-plays}
 use Rattle.aeth_running.proofs.GoingSessions.{GoesNow, goes-now}
 use Rattle.aeth_running.proofs.NetworkLaws.{BeginningLaws, CycleLaws}
@@ -23,19 +22,21 @@ use Rattle.aeth_running.proofs.Played.{played-time}
 use Rattle.aeth_running.specs.Network.{NetworkState, first_network, played, ready_in, stepped}
 use Rattle.aeth_running.specs.Routing.{IsRoutingFor, Routing}
 use Rattle.aeth_running.specs.Running.{IsRunning, IsServing}
-use Rattle.aeth_stimuli.specs.{Stimuli.goings_over, Stimuli.AreStimuli, Stimuli.stimuli_of}
-use Rattle.aeth_stimuli.specs.{Events.events_in, Loaded.loaded_components, OnChip.HaveRooms}
-use Rattle.aeth_stimuli.specs.{OnChip.IsOver, Sessions.IsBefore, Sessions.as_going}
-use Rattle.aeth_stimuli.specs.{Sessions.channel_of, Sessions.first_of, Sessions.going_of}
+use Rattle.aeth_stimuli.specs.{Stimuli.AreStimuli, Stimuli.stimuli_of, Events.events_in}
+use Rattle.aeth_stimuli.specs.{Loaded.loaded_components, OnChip.HaveRooms, OnChip.IsOver}
+use Rattle.aeth_stimuli.specs.{Sessions.IsBefore, Sessions.as_going, Sessions.channel_of}
+use Rattle.aeth_stimuli.specs.{Sessions.first_of, Sessions.session_going}
 
 module _ (begin : BeginningLaws) (laws : CycleLaws)
     (fabrics : (inputs : Inputs) → AreAccepted inputs → IsAccepted (fabric_of inputs))
     (spans : (inputs : Inputs) (accepted : AreAccepted inputs) → AreSpans inputs accepted)
-    (goings-are : (inputs : Inputs) → AreAccepted inputs → (channel : Channel)
-    → channel.conn.0 < length inputs.app.connections
-    → map as_going (goings_over (channel_number channel) (goings_of inputs))
-    ≡ map (going_of inputs channel) (filter (λ session. nat_lt session.go inputs.cycles)
-    (sessions_in (run_of inputs) channel.conn.0)))
+    (numbers : (inputs : Inputs) → AreAccepted inputs → map as_going (goings_of inputs)
+    ≡ map (session_going inputs)
+    (take (length (goings_of inputs)) (session_list (run_of inputs))))
+    (early-goes : (inputs : Inputs) → AreAccepted inputs → (c : ℕ)
+    → c < length (session_list (run_of inputs))
+    → go_of (run_of inputs).spans (listed_at (run_of inputs) c).stay.opening < inputs.cycles
+    → c < length (goings_of inputs))
     (sessions-apart : (inputs : Inputs) → AreAccepted inputs → (c i j : ℕ) (one other : Session)
     → c < length inputs.app.connections → i < j
     → slice_get (sessions_in (run_of inputs) c) i ≡ Some one
@@ -63,29 +64,22 @@ module _ (begin : BeginningLaws) (laws : CycleLaws)
   ok : IsAccepted (fabric_of inputs)
   ok = fabrics inputs accepted
 
-  -- No two sessions of a connection go in one cycle.
-  go-apart : (channel : Channel) → channel.conn.0 < length inputs.app.connections → (i j : ℕ)
-      (one other : Session) → i < j
-      → slice_get (sessions_in (run_of inputs) channel.conn.0) i ≡ Some one
-      → slice_get (sessions_in (run_of inputs) channel.conn.0) j ≡ Some other
-      → one.go ≡ other.go → ⊥
-  go-apart channel known i j one other less here there same =
-      let before = sessions-apart inputs accepted channel.conn.0 i j one other known less here there in
-      let found = session-number inputs channel i one known here in
-      let first = goes-first inputs accepted (spans inputs accepted) ok found.number found.known in
-      let go : (server_at (fabric_of inputs) found.number).go ≡ one.go =
-      ap (λ (session : Session). session.go) found.session_is in
-      let finish : (server_at (fabric_of inputs) found.number).finish ≡ before.closed.fin =
-      ap (λ (session : Session). (unwrap_or session.close (past_of inputs.cycles session.go)).fin)
-      found.session_is
-      ∙ ap (λ (close : Option Close). (unwrap_or close (past_of inputs.cycles one.go)).fin) before.is in
-      let order = before.order in
-      omega (arith, first, go, finish, order, same)
+  -- No two sessions of a channel go in one cycle.
+  go-once : (c d : ℕ) → c < (fabric_of inputs).count → d < (fabric_of inputs).count
+      → channel_of inputs c ≡ channel_of inputs d
+      → (server_at (fabric_of inputs) c).go ≡ (server_at (fabric_of inputs) d).go → c ≡ d
+  go-once c d known_c known_d same go =
+      let first = goes-first inputs accepted (spans inputs accepted) ok in
+      elim (ordered inputs (sessions-apart inputs accepted) c d known_c known_d same) [
+        | Same is ↦ is
+        | Before order ↦ let goes = first c known_c in absurd (omega (arith, order, goes, go))
+        | Behind order ↦ let goes = first d known_d in absurd (omega (arith, order, goes, go))
+      ]
 
   goes : (t : ℕ) → t < inputs.cycles → (channel : Channel)
       → channel.conn.0 < length inputs.app.connections → GoesNow inputs t channel
-  goes t early channel known = goes-now inputs t channel early known
-      (goings-are inputs accepted channel known) (go-apart channel known)
+  goes t early channel known = goes-now inputs t channel early (numbers inputs accepted)
+      (early-goes inputs accepted) go-once
 
   -- From each cycle to the next.
   plays-next : (t : ℕ) → Plays inputs routing (played t (first_network inputs routing))

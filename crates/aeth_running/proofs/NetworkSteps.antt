@@ -13,7 +13,7 @@ use Rattle.aeth_components.proofs.KeptLemmas.{lane-kept}
 use Rattle.aeth_refinement.specs.{Accepted.IsAccepted, Carried.words_from, Fabric.IsGoing}
 use Rattle.aeth_refinement.specs.{Fabric.flow_at, Fabric.server_at}
 use Rattle.aeth_accepted.specs.Inputs.{Inputs, run_of}
-use Rattle.aeth_fabric.specs.Fabric.{fabric_of, placed_at}
+use Rattle.aeth_fabric.specs.Fabric.{fabric_of}
 use Rattle.aeth_schedule.specs.{Goings.goings_of, Values.values_of, declared.going.Going.Going}
 use Rattle.aeth_invariant.specs.{Events.AreEvents, Places.ArePlaced, Running.Prepares}
 use Rattle.aeth_running.proofs.{ChannelStates.HasChannel, ChannelStates.StandsAt}
@@ -33,6 +33,7 @@ use Rattle.aeth_running.specs.Routing.{rows_at, rows_before}
 use Rattle.aeth_running.specs.Running.{IsLatest, IsRunning}
 use Rattle.aeth_stimuli.specs.{Events.events_in, Loaded.loaded_components, Sessions.channel_of}
 use Rattle.aeth_stimuli.specs.{Sessions.first_of, Stimuli.Stimuli, Stimuli.stimuli_of}
+use Rattle.aeth_report.specs.SessionList.{listed_at}
 
 -- A network of these inputs that runs.
 pub record Plays (inputs : Inputs) (routing : Routing) (network : NetworkState) : Type 0 where
@@ -146,7 +147,7 @@ module _ (inputs : Inputs) (routing : Routing) (routes : IsRoutingFor inputs rou
 
     -- The first word of the latest session is at its place.
     stands-first : (c : ℕ) → IsLatest inputs (t + 1) c → (until : ℕ) (lane : Lane)
-        → StandsAt inputs (t + 1) (placed_at (run_of inputs) c).channel until lane
+        → StandsAt inputs (t + 1) (listed_at (run_of inputs) c).channel until lane
         → lane.first ≡ first_of inputs c
     stands-first c latest until lane (Unused none zero_until) =
         absurd (none c latest.known refl latest.gone)
@@ -157,7 +158,7 @@ module _ (inputs : Inputs) (routing : Routing) (routes : IsRoutingFor inputs rou
         → slice_get (ready_in network).lanes (channel_of inputs c) ≡ Some lane
         → lane.first ≡ first_of inputs c
     firsts c latest lane at =
-        let channel = (placed_at (run_of inputs) c).channel in
+        let channel = (listed_at (run_of inputs) c).channel in
         let one = readies channel (placed-known inputs c latest.known) in
         let same : one.lane ≡ lane = same_Some one.lane lane (sym one.at ∙ at) in
         sym (ap (λ (other : Lane). other.first) same)

@@ -20,7 +20,7 @@ use Rattle.aeth_refinement.specs.{Accepted.IsAccepted, Fabric.Fabric, Fabric.IsG
 use Rattle.aeth_refinement.specs.{Fabric.server_at, Switches.Switched}
 use Rattle.aeth_refinement.proofs.{Owning.waiting-length, Unique.paths-of}
 use Rattle.aeth_accepted.specs.Inputs.{Inputs, run_of}
-use Rattle.aeth_fabric.specs.Fabric.{fabric_of, placed_at}
+use Rattle.aeth_fabric.specs.Fabric.{fabric_of}
 use Rattle.aeth_stimuli.specs.{Sessions.channel_of, Stimuli.stimuli_of, Events.events_in}
 use Rattle.aeth_invariant.specs.{Events.AreEvents, Following.Follows, Framed.IsFramed}
 use Rattle.aeth_invariant.specs.{Served.handed_after, View.net_of}
@@ -31,6 +31,7 @@ use Rattle.aeth_running.proofs.SettledQueues.{handed-full, handed_on-full, sent-
 use Rattle.aeth_running.specs.{Network.NetworkState, Network.first_network, Network.played}
 use Rattle.aeth_running.specs.{Network.ready_in, Network.state_behind, Network.stepped}
 use Rattle.aeth_running.specs.{Running.IsRunning, Running.IsServing, Routing.Routing}
+use Rattle.aeth_report.specs.SessionList.{listed_at}
 
 -- Where no word is offered in a cycle, none arrives in it.
 same-arrivals : (t : ℕ) (xs : List ℕ) → ((a : ℕ) → Contains xs a → a ≡ t → ⊥)
@@ -141,7 +142,7 @@ module _ (inputs : Inputs) (routing : Routing) (ok : IsAccepted (fabric_of input
     -- No word arrives in the cycle.
     none-arrives : (c : ℕ) → arrived (server_at fabric c) (t + 1) ≡ arrived (server_at fabric c) t
     none-arrives c =
-        let channel = (placed_at (run_of inputs) c).channel in
+        let channel = (listed_at (run_of inputs) c).channel in
         let own = λ (row : WordRow). is_channel channel row.channel in
         same-arrived (server_at fabric c) t (λ a has now.
         let (row, is, listed) = map-Contains (λ (row : WordRow). row.cycle)

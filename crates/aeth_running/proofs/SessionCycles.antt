@@ -2,26 +2,25 @@
 use Rattle.std.proofs.Common.{◌≡◌, ◌≤◌, ◌<◌, ◌∙◌, ℕ, ◌+◌, List, Option, Some, None, length, max}
 use Rattle.std.proofs.Common.{slice_get, refl, sym, ap, inl, inr, arith, option_map, slice_index_or}
 use Rattle.std.proofs.Common.{unwrap_or}
-use Rattle.std.proofs.lemmas.Bool.{cases_order}
-use Rattle.std.proofs.lemmas.Option.{get_or_from_slice_get, slice_get-get_or, slice_get-map}
-use Rattle.std.proofs.lemmas.Option.{slice_get_within}
+use Rattle.std.proofs.lemmas.{Bool.cases_order, Option.slice_get-get_or}
 use Rattle.std.specs.List.{AllPairs, Sorted.IsNonDecreasingBy}
 use Rattle.aeth_base.specs.Limits.{max_path_delay}
 use Rattle.aeth_base.specs.declared.ids.{Channel.Channel, Side.TheVariants.Fwd}
 use Rattle.aeth_server.specs.PrivateServer.{PrivateServer}
 use Rattle.aeth_trace.specs.Channels.{channel_number}
 use Rattle.aeth_group.proofs.MemberLemmas.{connections-groups_of}
-use Rattle.aeth_report.specs.{Flows.close_at, Flows.server_of, Flows.sessions_in, Sessions.Switch}
-use Rattle.aeth_report.specs.{Sessions.close_by, Sessions.session_of, declared.session.Close.Close}
-use Rattle.aeth_report.specs.{declared.session.Session.Session, Sound.IsSound}
+use Rattle.aeth_report.specs.Flows.{close_at, server_of, sessions_in}
+use Rattle.aeth_report.specs.Sessions.{Switch, close_by, session_of}
+use Rattle.aeth_report.specs.declared.session.{Close.Close, Session.Session}
+use Rattle.aeth_report.specs.Sound.{IsSound}
+use Rattle.aeth_report.specs.SessionList.{ChannelSession, listed_at, place_at}
 use Rattle.aeth_report.proofs.{ClosingLemmas.lands_by_finish, OneFlit.session-paths}
 use Rattle.aeth_report.proofs.{SessionMeetings.mapped_at, SessionOrder.sessions_after}
-use Rattle.aeth_report.proofs.{StaysAlone.at-Contains}
+use Rattle.aeth_report.proofs.{StaysAlone.at-Contains, SessionNumbers.listed-among}
+use Rattle.aeth_report.proofs.{SessionNumbers.numbered}
 use Rattle.aeth_refinement.specs.Fabric.{server_at}
 use Rattle.aeth_accepted.specs.Inputs.{Inputs, run_of}
-use Rattle.aeth_fabric.specs.Fabric.{Placed, ended, fabric_of, no_placed, placed_at, placed_of}
-use Rattle.aeth_fabric.specs.Fabric.{stays_in}
-use Rattle.aeth_fabric.proofs.Numbers.{numbered, placed-there}
+use Rattle.aeth_fabric.specs.Fabric.{ended, fabric_of, stays_in}
 use Rattle.aeth_stimuli.specs.Sessions.{IsBefore, channel_of}
 use Rattle.aeth_running.proofs.ChannelsByNumber.{same-connection}
 
@@ -126,15 +125,13 @@ module _ (inputs : Inputs) (sound : IsSound (run_of inputs)) where
         let run = run_of inputs in
         let stay = mapped_at (session_of run.spans) (stays_in run channel.conn.0) i session at in
         let count = connections-groups_of inputs.app in
-        let number = numbered run channel i stay.0 (omega arith) stay.1 in
-        let placed : Placed = record { channel = channel; place = i; stay = stay.0 } in
-        let there : placed_at run number.0 ≡ placed =
-        get_or_from_slice_get (placed_of run) number.0 placed no_placed number.1 in
+        let found = numbered run channel i stay.0 (omega arith) stay.1 in
+        let there = found.is in
         record {
-          number = number.0;
-          within = slice_get_within (placed_of run) number.0 placed number.1;
-          channel_is = ap (λ (p : Placed). channel_number p.channel) there;
-          server_is = ap (λ (p : Placed). server_of run p.channel
+          number = found.number;
+          within = found.known;
+          channel_is = ap (λ (p : ChannelSession). channel_number p.channel) there;
+          server_is = ap (λ (p : ChannelSession). server_of run p.channel
               (ended inputs.cycles (session_of run.spans p.stay))) there
               ∙ ap (λ (s : Session). server_of run channel (ended inputs.cycles s)) stay.2;
         }
@@ -165,14 +162,12 @@ module _ (inputs : Inputs) (sound : IsSound (run_of inputs)) where
         → channel_of inputs d ≡ channel_number channel → IsAmong d
     is-among d within same =
         let run = run_of inputs in
-        let placed = placed_at run d in
-        let is = placed-there run d within in
-        let connection = same-connection placed.channel channel same in
+        let own = listed_at run d in
+        let connection = same-connection own.channel channel same in
         record {
-          place = placed.place;
-          session = session_of run.spans placed.stay;
-          at = ap (λ n. slice_get (sessions_in run n) placed.place) (sym connection)
-              ∙ slice_get-map (session_of run.spans) (stays_in run placed.channel.conn.0) placed.place
-              ∙ ap (option_map (session_of run.spans)) is.stay_at;
+          place = place_at run d;
+          session = session_of run.spans own.stay;
+          at = ap (λ n. slice_get (sessions_in run n) (place_at run d)) (sym connection)
+              ∙ listed-among run d within;
           go = refl;
         }

@@ -11,12 +11,13 @@ use Rattle.aeth_components.specs.Lanes.{is_open}
 use Rattle.aeth_group.proofs.MemberLemmas.{connections-groups_of}
 use Rattle.aeth_server.specs.PrivateServer.{PrivateServer, taken}
 use Rattle.aeth_report.specs.{Carries.carries, Flows.server_of, Flows.sessions_in, Sound.IsSound}
-use Rattle.aeth_report.specs.{declared.session.Session.Session}
-use Rattle.aeth_report.proofs.OneFlit.{session-paths}
+use Rattle.aeth_report.specs.{declared.session.Session.Session, SessionList.listed_at}
+use Rattle.aeth_report.specs.{SessionList.place_at}
+use Rattle.aeth_report.proofs.{OneFlit.session-paths, SessionNumbers.listed-among}
 use Rattle.aeth_refinement.specs.{Accepted.IsAccepted, Fabric.IsGoing, Fabric.server_at}
 use Rattle.aeth_accepted.specs.Inputs.{AreAccepted, Inputs, run_of}
 use Rattle.aeth_accepted.proofs.SoundRuns.{AreSpans, is_sound}
-use Rattle.aeth_fabric.specs.Fabric.{ended, fabric_of, placed_at}
+use Rattle.aeth_fabric.specs.Fabric.{ended, fabric_of}
 use Rattle.aeth_schedule.specs.Windows.{IsWithin}
 use Rattle.aeth_stimuli.specs.{Sessions.channel_of, Stimuli.Stimuli, Stimuli.stimuli_of}
 use Rattle.aeth_stimuli.specs.{Events.events_in}
@@ -24,15 +25,14 @@ use Rattle.aeth_running.specs.{Idle.IsIdle, Network.NetworkState, Network.first_
 use Rattle.aeth_running.specs.{Network.goings_in, Network.offers_in, Network.played}
 use Rattle.aeth_running.specs.{Network.ready_in, Network.stepped, Running.IsRunning}
 use Rattle.aeth_running.specs.{Running.IsServing, Still.IsStill, Routing.Routing}
-use Rattle.aeth_running.proofs.FabricSessions.{placed-known, session-there, session_at}
-use Rattle.aeth_running.proofs.NetworkWires.{exact, nothing-first}
-use Rattle.aeth_running.proofs.Played.{played-next, played-stimuli, played-time}
-use Rattle.aeth_running.proofs.SessionCycles.{ended-server, has-number}
-use Rattle.aeth_running.proofs.StillEvents.{no-events}
-use Rattle.aeth_running.proofs.StillGoings.{no-goings}
-use Rattle.aeth_running.proofs.StillRows.{no-offers, no-switches, no-windows, no-words}
-use Rattle.aeth_running.proofs.StillTakes.{rest-asked, rest-taken, rests-early}
-use Rattle.aeth_running.proofs.StillWires.{no-carries, no-flits}
+use Rattle.aeth_running.proofs.{FabricSessions.placed-known, FabricSessions.session_at}
+use Rattle.aeth_running.proofs.{NetworkWires.exact, NetworkWires.nothing-first, Played.played-next}
+use Rattle.aeth_running.proofs.{Played.played-stimuli, Played.played-time}
+use Rattle.aeth_running.proofs.{SessionCycles.ended-server, SessionCycles.has-number}
+use Rattle.aeth_running.proofs.{StillEvents.no-events, StillGoings.no-goings, StillRows.no-offers}
+use Rattle.aeth_running.proofs.{StillRows.no-switches, StillRows.no-windows, StillRows.no-words}
+use Rattle.aeth_running.proofs.{StillTakes.rest-asked, StillTakes.rest-taken}
+use Rattle.aeth_running.proofs.{StillTakes.rests-early, StillWires.no-carries, StillWires.no-flits}
 
 module _ (inputs : Inputs) (routing : Routing) (accepted : AreAccepted inputs) (spans : AreSpans inputs accepted)
     (ok : IsAccepted (fabric_of inputs))
@@ -84,14 +84,14 @@ module _ (inputs : Inputs) (routing : Routing) (accepted : AreAccepted inputs) (
         → taken (server_at (fabric_of inputs) c) (t + 1) ≡ taken (server_at (fabric_of inputs) c) t
     fabric-untaken none c known going =
         let run = run_of inputs in
-        let channel = (placed_at run c).channel in
+        let channel = (listed_at run c).channel in
         let session = session_at inputs c in
         let inside = placed-known inputs c known in
         let count = connections-groups_of inputs.app in
         let goes = going.goes in
         let soon : session.go ≤ inputs.cycles = omega arith in
-        let has = Contains-slice_get (sessions_in run channel.conn.0) (placed_at run c).place session
-        (session-there inputs c known) in
+        let has = Contains-slice_get (sessions_in run channel.conn.0) (place_at run c) session
+        (listed-among run c known) in
         let same : server_of run channel (ended inputs.cycles session) ≡ server_of run channel session =
         ended-server inputs sound channel inside session soon in
         subst (λ (server : PrivateServer). taken server (t + 1) ≡ taken server t) (sym same)

@@ -12,6 +12,7 @@ use Rattle.aeth_ni.specs.declared.write.Write.{Write}
 use Rattle.aeth_ni.specs.declared.write.Write.TheVariants.{ClearRoute, ClearSlot, SetSlot}
 use Rattle.aeth_trace.specs.Spans.{SpanData}
 use Rattle.aeth_report.specs.Sessions.{Switch, close_by, closes}
+use Rattle.aeth_report.specs.SessionList.{listed_at}
 use Rattle.aeth_reconf.specs.Rows.{RowOf, channels_that, rows_closing, rows_opening, switch_program}
 use Rattle.aeth_reconf.specs.Windows.{IsClosed, IsClosingWrite, IsOpened, IsOpeningWrite}
 use Rattle.aeth_reconf.specs.Windows.{cleared_of, clears_from, freed_of, set_of, set_route}
@@ -19,7 +20,7 @@ use Rattle.aeth_reconf.proofs.WritePlaces.{of_channel}
 use Rattle.aeth_reconf.proofs.WriteTimes.{clear_at, free_at, route_at, slot_at as set_slot_at}
 use Rattle.aeth_accepted.specs.Inputs.{AreAccepted, Inputs, design_of, row_at, run_of}
 use Rattle.aeth_components.specs.declared.event.Event.{Event}
-use Rattle.aeth_fabric.specs.Fabric.{fabric_of, placed_at, slot_at}
+use Rattle.aeth_fabric.specs.Fabric.{fabric_of, slot_at}
 use Rattle.aeth_refinement.specs.Switches.{IsEntryAt, finish_of, freed_of as freed_at, halt_of}
 use Rattle.aeth_refinement.specs.Switches.{set_of as set_at}
 use Rattle.aeth_invariant.specs.Events.{IsEventOf, IsWriteOf, OnQueue, OnSlot}
@@ -70,7 +71,7 @@ module _ (inputs : Inputs) (accepted : AreAccepted inputs) where
       → IsIn inputs c (group_at (groups_of inputs.app) u) channel
       → slice_get (row_at (design_of inputs) (group_at (groups_of inputs.app) u) channel).slots.slots i
       ≡ Some x
-      → (slot_at (run_of inputs) (placed_at (run_of inputs) c) x ≡ i)
+      → (slot_at (run_of inputs) (listed_at (run_of inputs) c) x ≡ i)
       × (x < inputs.chip.slots)
       × IsEntryAt (fabric_of inputs)
       (row_at (design_of inputs) (group_at (groups_of inputs.app) u) channel).ni.0 x c
@@ -136,7 +137,7 @@ module _ (inputs : Inputs) (accepted : AreAccepted inputs) where
         let channel = closing.channel in
         let row = row_of (group_at groups u) channel in
         let session = closing-session channel closing.closed in
-        let p = placed_at (run_of inputs) session.c in
+        let p = listed_at (run_of inputs) session.c in
         let with = closed-with inputs p switch session.closing in
         let time = closing.time in
         let inside = closing.inside in
@@ -190,7 +191,7 @@ module _ (inputs : Inputs) (accepted : AreAccepted inputs) where
         let channel = opening.channel in
         let row = row_of (group_at groups v) channel in
         let session = opened-at inputs switch is_switch channel opening.opened in
-        let p = placed_at (run_of inputs) session.c in
+        let p = listed_at (run_of inputs) session.c in
         let with = opened-with inputs p switch session.opening_is in
         let own : set_of groups row_of spans p.channel (Some switch)
         ≡ set_of groups row_of spans channel (Some switch) =
@@ -248,7 +249,7 @@ module _ (inputs : Inputs) (accepted : AreAccepted inputs) where
           | IsHalt row is_in time event ↦
               let (channel, closed, same) = row-closed row is_in in
               let session = closing-session channel closed in
-              let stop = (closed-with inputs (placed_at (run_of inputs) session.c) switch
+              let stop = (closed-with inputs (listed_at (run_of inputs) session.c) switch
               session.closing).stop in
               let queue = on-queue (halt_of fabric) e session.c (group_at groups u) channel session.is
               (omega (arith, stop, time)) in
@@ -257,7 +258,7 @@ module _ (inputs : Inputs) (accepted : AreAccepted inputs) where
           | IsFinish row is_in time event ↦
               let (channel, closed, same) = row-closed row is_in in
               let session = closing-session channel closed in
-              let finish = (closed-with inputs (placed_at (run_of inputs) session.c) switch
+              let finish = (closed-with inputs (listed_at (run_of inputs) session.c) switch
               session.closing).finish in
               let queue = on-queue (finish_of fabric) e session.c (group_at groups u) channel session.is
               (omega (arith, finish, time)) in

@@ -13,6 +13,8 @@ use Rattle.aeth_ni.specs.declared.write.Write.{Write, TheVariants.SetRoute, TheV
 use Rattle.aeth_trace.specs.{Spans.SpanData, Switches.is_first_at_zero}
 use Rattle.aeth_trace.specs.{declared.switches.SwitchRow.SwitchRow}
 use Rattle.aeth_report.specs.Sessions.{Stay, Switch}
+use Rattle.aeth_report.specs.SessionList.{ChannelSession, session_list, listed_at}
+use Rattle.aeth_report.proofs.SessionNumbers.{listed-there}
 use Rattle.aeth_reconf.specs.Rows.{Meets, RowOf, channels_that, rows_that}
 use Rattle.aeth_reconf.specs.Windows.{set_of, set_route, slot_set_of}
 use Rattle.aeth_reconf.proofs.WindowLemmas.{channels_that-has}
@@ -22,8 +24,8 @@ use Rattle.aeth_accepted.proofs.ApartRows.{all_apart}
 use Rattle.aeth_components.specs.declared.event.Event.{Event, TheVariants.Change}
 use Rattle.aeth_refinement.specs.Fabric.{flow_at, has_slot, server_at}
 use Rattle.aeth_refinement.specs.Switches.{freed_of as freed_at, set_of as set_at}
-use Rattle.aeth_fabric.specs.Fabric.{Placed, fabric_of, placed_at, placed_of, row_in, slot_at}
-use Rattle.aeth_fabric.proofs.{ApartWires.slot_place, Numbers.placed-there}
+use Rattle.aeth_fabric.specs.Fabric.{fabric_of, row_in, slot_at}
+use Rattle.aeth_fabric.proofs.ApartWires.{slot_place}
 use Rattle.aeth_invariant.specs.Events.{AreEvents, IsEventOf, IsWriteOf, Occurs, ni_of}
 use Rattle.aeth_schedule.specs.Switching.{changes, loaded_by, loaded_of}
 use Rattle.aeth_stimuli.proofs.CycleEvents.{queue-once, slot-once}
@@ -99,7 +101,7 @@ module _ (inputs : Inputs) (accepted : AreAccepted inputs) where
       let group = group_at groups u in
       let row = row_of group channel in
       let session = loaded-session channel known has in
-      let p = placed_at (run_of inputs) session.c in
+      let p = listed_at (run_of inputs) session.c in
       let flow = row-is inputs session.c group channel session.is in
       elim (opening-of row write listed) [
         | IsRoute same ↦
@@ -156,9 +158,9 @@ module _ (inputs : Inputs) (accepted : AreAccepted inputs) where
       (Contains-map (row_of (group_at groups u)) channels channel
       (channels_that-has groups (has_at groups u) channel known has)) own))
 
-  module _ (c : ℕ) (within : c < length (placed_of (run_of inputs))) where
-    abbrev p : Placed
-    p = placed_at (run_of inputs) c
+  module _ (c : ℕ) (within : c < length (session_list (run_of inputs))) where
+    abbrev p : ChannelSession
+    p = listed_at (run_of inputs) c
 
     sets : set_at (fabric_of inputs) c ≡ 0
         → Occurs (changes writes) (Change (SetRoute (ni_of (fabric_of inputs) c)
@@ -169,7 +171,7 @@ module _ (inputs : Inputs) (accepted : AreAccepted inputs) where
           let row = row-there inputs accepted c within (group_at groups u) same in
           let own = row_of (group_at groups u) p.channel in
           subst (λ (w : Write). Occurs (changes writes) (Change w)) (ap set_route row)
-          (occurs p.channel (placed-there (run_of inputs) c within).known has (set_route own)
+          (occurs p.channel (listed-there (run_of inputs) c within).known has (set_route own)
           (Contains-here (set_route own)
           (map (λ slot. SetSlot own.ni slot own.queue) own.slots.slots)))
       | Opened switch is ↦ let set = is.with.set in absurd (omega (arith, set, falls))
@@ -189,7 +191,7 @@ module _ (inputs : Inputs) (accepted : AreAccepted inputs) where
           ∙ slot_place (row_in (run_of inputs) p).slots.slots x uses in
           subst (λ (w : Write). Occurs (changes writes) (Change w))
           (ap (λ (r : ChannelRow). SetSlot r.ni x r.queue) row)
-          (occurs p.channel (placed-there (run_of inputs) c within).known has (set x)
+          (occurs p.channel (listed-there (run_of inputs) c within).known has (set x)
           (Contains-there (set_route own) (map set own.slots.slots) (set x)
           (Contains-map set own.slots.slots x (has_place own.slots.slots place x there))))
       | Opened switch is ↦ let set = is.with.slot_set x in absurd (omega (arith, set, falls))

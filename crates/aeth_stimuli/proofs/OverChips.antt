@@ -14,8 +14,11 @@ use Rattle.aeth_group.specs.Members.{group_at, groups_of, has_at}
 use Rattle.aeth_group.proofs.MemberLemmas.{connections-groups_of}
 use Rattle.aeth_ni.specs.{Limits.queues_of_interface, declared.row.ChannelRow.ChannelRow}
 use Rattle.aeth_report.specs.Channels.{channels_with, opposite}
+use Rattle.aeth_report.specs.SessionList.{ChannelSession, session_list, listed_at, partner_of}
+use Rattle.aeth_report.specs.SessionList.{place_at}
 use Rattle.aeth_report.proofs.{OneFlit.opposite-opposite, Stays.AreKnown, Stays.IsStayOf}
 use Rattle.aeth_report.proofs.{Stays.stays_of-is, StaysAlone.at-Contains}
+use Rattle.aeth_report.proofs.{SessionNumbers.listed-there, SessionNumbers.partner-is}
 use Rattle.aeth_tables.specs.{Promises.HasNumbers, TableText.IsRowOf, Tables.tables_of}
 use Rattle.aeth_tables.proofs.{ListLaws.all_has, PromiseLaws.are_printable}
 use Rattle.aeth_accepted.specs.Inputs.{AreAccepted, Inputs, design_of, row_at, run_of}
@@ -23,9 +26,8 @@ use Rattle.aeth_accepted.proofs.{GivenGrants.connection-known, GivenGrants.use-k
 use Rattle.aeth_accepted.proofs.{TableFlows.rows-of_tables, SessionRows.is_row}
 use Rattle.aeth_accepted.proofs.{SessionRows.promised, SoundRuns.greatest-above}
 use Rattle.aeth_refinement.specs.Fabric.{server_at}
-use Rattle.aeth_fabric.specs.Fabric.{Placed, fabric_of, opposite_in, placed_at, placed_of, row_in}
-use Rattle.aeth_fabric.specs.Fabric.{stays_in}
-use Rattle.aeth_fabric.proofs.{Numbers.opposite-is, Numbers.placed-there, SessionRows.numbers}
+use Rattle.aeth_fabric.specs.Fabric.{fabric_of, row_in, stays_in}
+use Rattle.aeth_fabric.proofs.SessionRows.{numbers}
 use Rattle.aeth_schedule.specs.Lines.{all_lines, line_with, lines_of, lines_with}
 use Rattle.aeth_schedule.specs.Rooms.{queue_number, room_at, rooms_of}
 use Rattle.aeth_schedule.specs.declared.lines.Line.{Line}
@@ -160,45 +162,45 @@ module _ (inputs : Inputs) (accepted : AreAccepted inputs) where
       omega (arith, fits, at)
 
   -- What a stay of a session is of.
-  module _ (c : ℕ) (within : c < length (placed_of (run_of inputs))) where
-    pub stay_is : IsStayOf (groups_of inputs.app) (placed_at (run_of inputs) c).channel.conn.0
-        (placed_at (run_of inputs) c).stay
+  module _ (c : ℕ) (within : c < length (session_list (run_of inputs))) where
+    pub stay_is : IsStayOf (groups_of inputs.app) (listed_at (run_of inputs) c).channel.conn.0
+        (listed_at (run_of inputs) c).stay
     stay_is =
-        let p = placed_at (run_of inputs) c in
+        let p = listed_at (run_of inputs) c in
         stays_of-is (groups_of inputs.app) p.channel.conn.0 inputs.switches p.stay rows_known
-        (at-Contains (stays_in (run_of inputs) p.channel.conn.0) p.place p.stay
-        (placed-there (run_of inputs) c within).stay_at)
+        (at-Contains (stays_in (run_of inputs) p.channel.conn.0) (place_at (run_of inputs) c) p.stay
+        (listed-there (run_of inputs) c within).stay_at)
 
     -- Its row names an interface of the chip, and a queue.
     pub named : IsRowOf inputs.chip inputs.app
-        (row_in (run_of inputs) (placed_at (run_of inputs) c))
+        (row_in (run_of inputs) (listed_at (run_of inputs) c))
     named =
-        let p = placed_at (run_of inputs) c in
+        let p = listed_at (run_of inputs) c in
         subst (λ (g : ℕ). IsRowOf inputs.chip inputs.app (row_at (design_of inputs) g p.channel))
         stay_is.in_group (row_named stay_is.use_case p.channel stay_is.has)
 
-    pub numbered : HasNumbers (row_in (run_of inputs) (placed_at (run_of inputs) c))
+    pub numbered : HasNumbers (row_in (run_of inputs) (listed_at (run_of inputs) c))
     numbered =
-        let p = placed_at (run_of inputs) c in
+        let p = listed_at (run_of inputs) c in
         subst (λ (g : ℕ). HasNumbers (row_at (design_of inputs) g p.channel))
         stay_is.in_group (numbers inputs accepted stay_is.use_case p.channel stay_is.has)
 
     -- Its queue has room for the buffer of what lands there.
-    roomy : (server_at (fabric_of inputs) (opposite_in (run_of inputs) c)).buffer
+    roomy : (server_at (fabric_of inputs) (partner_of c)).buffer
         ≤ get_or (rooms_at (rooms_of inputs)
-        (row_in (run_of inputs) (placed_at (run_of inputs) c)).ni.0)
-        (row_in (run_of inputs) (placed_at (run_of inputs) c)).queue 0
+        (row_in (run_of inputs) (listed_at (run_of inputs) c)).ni.0)
+        (row_in (run_of inputs) (listed_at (run_of inputs) c)).queue 0
     roomy =
         let run = run_of inputs in
         let design = design_of inputs in
-        let p = placed_at run c in
+        let p = listed_at run c in
         let row = row_in run p in
         let rooms = rooms_of inputs in
         let from = row.ni.0 * queues_of_interface in
-        let turned = (opposite-is run c within).is in
-        let buffer : (server_at (fabric_of inputs) (opposite_in run c)).buffer
+        let turned = (partner-is run c within).is in
+        let buffer : (server_at (fabric_of inputs) (partner_of c)).buffer
         ≡ (row_at design p.stay.group (opposite p.channel)).credits =
-        ap (λ (q : Placed). (row_in run q).credits) turned in
+        ap (λ (q : ChannelSession). (row_in run q).credits) turned in
         let room = subst (λ (g : ℕ). (row_at design g (opposite p.channel)).credits
         ≤ get_or rooms
         (queues_of_interface * (row_at design g p.channel).ni.0 + (row_at design g p.channel).queue) 0)

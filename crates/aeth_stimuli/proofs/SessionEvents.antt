@@ -10,7 +10,9 @@ use Rattle.aeth_ni.specs.declared.write.Write.{Write}
 use Rattle.aeth_ni.specs.declared.write.Write.TheVariants.{ClearRoute, ClearSlot, SetRoute, SetSlot}
 use Rattle.aeth_trace.specs.Spans.{SpanData}
 use Rattle.aeth_report.specs.Sessions.{Switch, close_by, closes}
+use Rattle.aeth_report.specs.SessionList.{ChannelSession, session_list, listed_at, place_at}
 use Rattle.aeth_report.proofs.{Stays.IsClosedBy, StaysAlone.at-Contains}
+use Rattle.aeth_report.proofs.{SessionNumbers.listed-there}
 use Rattle.aeth_reconf.specs.Rows.{RowOf, channels_that, rows_closing, rows_opening, switch_program}
 use Rattle.aeth_reconf.specs.Windows.{IsClosed, IsOpened, closing_ahead, freed_of, opening_ahead}
 use Rattle.aeth_reconf.specs.Windows.{set_of, set_route, slot_set_of}
@@ -22,9 +24,9 @@ use Rattle.aeth_components.specs.declared.event.Event.TheVariants.{Change, Finis
 use Rattle.aeth_refinement.specs.Fabric.{flow_at, has_slot, server_at}
 use Rattle.aeth_refinement.specs.Switches.{finish_of, freed_of as freed_at, halt_of}
 use Rattle.aeth_refinement.specs.Switches.{set_of as set_at}
-use Rattle.aeth_fabric.specs.Fabric.{Placed, cleared_by, fabric_of, freed_by, placed_at, placed_of}
-use Rattle.aeth_fabric.specs.Fabric.{row_in, slot_at, slot_freed_in, stays_in}
-use Rattle.aeth_fabric.proofs.{ApartWires.past, ApartWires.slot_place, Numbers.placed-there}
+use Rattle.aeth_fabric.specs.Fabric.{cleared_by, fabric_of, freed_by, row_in, slot_at}
+use Rattle.aeth_fabric.specs.Fabric.{slot_freed_in, stays_in}
+use Rattle.aeth_fabric.proofs.ApartWires.{past, slot_place}
 use Rattle.aeth_invariant.specs.Events.{ni_of, queue_end}
 use Rattle.aeth_schedule.specs.{Lines.end_of, Switching.events_by, Switching.later_switches}
 use Rattle.aeth_schedule.specs.{Switching.timed_of, declared.timed.Timed.Timed}
@@ -48,33 +50,33 @@ module _ (inputs : Inputs) (accepted : AreAccepted inputs) where
   abbrev pub HappensAt : ℕ → Event → Type 0
   HappensAt t event = Contains (timed_of inputs) (record { cycle = t; event = event })
 
-  module _ (c : ℕ) (within : c < length (placed_of (run_of inputs))) where
-    abbrev p : Placed
-    p = placed_at (run_of inputs) c
+  module _ (c : ℕ) (within : c < length (session_list (run_of inputs))) where
+    abbrev p : ChannelSession
+    p = listed_at (run_of inputs) c
 
     abbrev channel : Channel
-    channel = (placed_at (run_of inputs) c).channel
+    channel = (listed_at (run_of inputs) c).channel
 
     -- Its stay is opened and closed by switches of the run.
-    among : IsAmong (groups_of inputs.app) (placed_at (run_of inputs) c).channel.conn.0
+    among : IsAmong (groups_of inputs.app) (listed_at (run_of inputs) c).channel.conn.0
         (loaded_use inputs.switches) (later_switches inputs.switches)
-        (placed_at (run_of inputs) c).stay
+        (listed_at (run_of inputs) c).stay
     among =
         stay-among groups channel.conn.0 inputs.switches p.stay
-        (at-Contains (stays_in (run_of inputs) channel.conn.0) p.place p.stay
-        (placed-there (run_of inputs) c within).stay_at)
+        (at-Contains (stays_in (run_of inputs) channel.conn.0) (place_at (run_of inputs) c) p.stay
+        (listed-there (run_of inputs) c within).stay_at)
 
     -- The switch that closes it.
     pub record IsShutBy (switch : Switch) : Type 0 where
       pub is_switch : Contains (later_switches inputs.switches) switch
-      pub closed : IsClosed (groups_of inputs.app) switch (placed_at (run_of inputs) c).channel
+      pub closed : IsClosed (groups_of inputs.app) switch (listed_at (run_of inputs) c).channel
       pub in_group : group_at (groups_of inputs.app) switch.leaves
-          ≡ (placed_at (run_of inputs) c).stay.group
-      pub with : IsClosedWith inputs (placed_at (run_of inputs) c) switch
+          ≡ (listed_at (run_of inputs) c).stay.group
+      pub with : IsClosedWith inputs (listed_at (run_of inputs) c) switch
 
     -- Either a switch closes it, or what closes it falls past the end of the run.
     pub data Shuts : Type 0 where
-      ByNone : (placed_at (run_of inputs) c).stay.closing ≡ None → Shuts
+      ByNone : (listed_at (run_of inputs) c).stay.closing ≡ None → Shuts
       BySwitch : (switch : Switch) → IsShutBy switch → Shuts
 
     pub shuts : Shuts
@@ -86,7 +88,7 @@ module _ (inputs : Inputs) (accepted : AreAccepted inputs) where
           | Some switch ↦ λ closing is_switch closer. BySwitch switch (record {
             is_switch = is_switch;
             closed = record {
-              known = (placed-there (run_of inputs) c within).known;
+              known = (listed-there (run_of inputs) c within).known;
               is = closer.is_closed;
             };
             in_group = closer.in_group;
@@ -98,18 +100,18 @@ module _ (inputs : Inputs) (accepted : AreAccepted inputs) where
     -- The switch that opens it.
     pub record IsOpenBy (switch : Switch) : Type 0 where
       pub is_switch : Contains (later_switches inputs.switches) switch
-      pub opened : IsOpened (groups_of inputs.app) switch (placed_at (run_of inputs) c).channel
+      pub opened : IsOpened (groups_of inputs.app) switch (listed_at (run_of inputs) c).channel
       pub in_group : group_at (groups_of inputs.app) switch.row.to.0
-          ≡ (placed_at (run_of inputs) c).stay.group
-      pub with : IsOpenedWith inputs (placed_at (run_of inputs) c) switch
+          ≡ (listed_at (run_of inputs) c).stay.group
+      pub with : IsOpenedWith inputs (listed_at (run_of inputs) c) switch
 
     -- Either it is loaded before the first cycle, or a switch opens it.
     pub data Opens : Type 0 where
-      Loaded : (placed_at (run_of inputs) c).stay.opening ≡ None
+      Loaded : (listed_at (run_of inputs) c).stay.opening ≡ None
           → IsTrue (has_at (groups_of inputs.app) (loaded_use inputs.switches)
-          (placed_at (run_of inputs) c).channel.conn.0)
+          (listed_at (run_of inputs) c).channel.conn.0)
           → group_at (groups_of inputs.app) (loaded_use inputs.switches)
-          ≡ (placed_at (run_of inputs) c).stay.group → Opens
+          ≡ (listed_at (run_of inputs) c).stay.group → Opens
       Opened : (switch : Switch) → IsOpenBy switch → Opens
 
     pub opens-by : Opens
@@ -120,7 +122,7 @@ module _ (inputs : Inputs) (accepted : AreAccepted inputs) where
           | None ↦ λ opening is. Loaded opening is.0 is.1
           | Some switch ↦ λ opening is. Opened switch (record {
             is_switch = is.0;
-            opened = record { known = (placed-there (run_of inputs) c within).known; is = is.1 };
+            opened = record { known = (listed-there (run_of inputs) c within).known; is = is.1 };
             in_group = is.2;
             with = opened-with inputs p switch opening;
           })
@@ -135,9 +137,9 @@ module _ (inputs : Inputs) (accepted : AreAccepted inputs) where
       pub finish : inputs.cycles ≤ (server_at (fabric_of inputs) c).finish
       pub freed : inputs.cycles < freed_at (fabric_of inputs) c
       pub slot_freed : (x : ℕ) → inputs.cycles < slot_freed_in (run_of inputs)
-          (placed_at (run_of inputs) c) x
+          (listed_at (run_of inputs) c) x
 
-    pub late : (placed_at (run_of inputs) c).stay.closing ≡ None → IsPast
+    pub late : (listed_at (run_of inputs) c).stay.closing ≡ None → IsPast
     late closing =
         let run = run_of inputs in
         let stop : (server_at (fabric_of inputs) c).stop ≡ (past run p).stop =
@@ -160,16 +162,16 @@ module _ (inputs : Inputs) (accepted : AreAccepted inputs) where
     -- ---- the cycle of each event
 
     -- The row of the session is that of its channel in the group that a switch leaves or enters.
-    pub row-there : (group : ℕ) → group ≡ (placed_at (run_of inputs) c).stay.group
-        → row_at (design_of inputs) group (placed_at (run_of inputs) c).channel
-        ≡ row_in (run_of inputs) (placed_at (run_of inputs) c)
+    pub row-there : (group : ℕ) → group ≡ (listed_at (run_of inputs) c).stay.group
+        → row_at (design_of inputs) group (listed_at (run_of inputs) c).channel
+        ≡ row_in (run_of inputs) (listed_at (run_of inputs) c)
     row-there group same = ap (λ (g : ℕ). row_of g channel) same
 
     -- It is among those that close.
     closing-row : (switch : Switch) → IsShutBy switch → Contains (rows_closing (groups_of inputs.app)
         (row_at (design_of inputs)) switch.leaves switch.row.to.0)
         (row_at (design_of inputs) (group_at (groups_of inputs.app) switch.leaves)
-        (placed_at (run_of inputs) c).channel)
+        (listed_at (run_of inputs) c).channel)
     closing-row switch is =
         let test = closes groups switch.leaves switch.row.to.0 in
         Contains-map (row_of (group_at groups switch.leaves)) (channels_that groups test) channel
@@ -270,13 +272,13 @@ module _ (inputs : Inputs) (accepted : AreAccepted inputs) where
 
       module _ (x : ℕ) (own : has_slot (fabric_of inputs) c x ≡ true) where
         abbrev place : ℕ
-        place = slot_at (run_of inputs) (placed_at (run_of inputs) c) x
+        place = slot_at (run_of inputs) (listed_at (run_of inputs) c) x
 
         -- The slot stands at its place in the row.
-        slot-there : (group : ℕ) → group ≡ (placed_at (run_of inputs) c).stay.group
+        slot-there : (group : ℕ) → group ≡ (listed_at (run_of inputs) c).stay.group
             → slice_get
-            (row_at (design_of inputs) group (placed_at (run_of inputs) c).channel).slots.slots
-            (slot_at (run_of inputs) (placed_at (run_of inputs) c) x) ≡ Some x
+            (row_at (design_of inputs) group (listed_at (run_of inputs) c).channel).slots.slots
+            (slot_at (run_of inputs) (listed_at (run_of inputs) c) x) ≡ Some x
         slot-there group same =
             ap (λ (r : ChannelRow). slice_get r.slots.slots place) (row-there group same)
             ∙ slot_place (row_in (run_of inputs) p).slots.slots x own

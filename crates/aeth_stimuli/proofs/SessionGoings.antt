@@ -1,30 +1,62 @@
--- The sessions of a channel that go within a run are those of its connection, one by one.
-use Rattle.std.proofs.Common.{◌≡◌, ◌<◌, ◌++◌, ◌∙◌, ℕ, All, Bool, true, false, List, [], ◌∷◌, Option}
-use Rattle.std.proofs.Common.{Some, None, ap, arith, filter, length, map, refl, sym, nat_lt, ◌-◌}
-use Rattle.std.proofs.Common.{◌+◌, min}
+-- The sessions of a run as the schedule has them are those of the list, one by one.
+use Rattle.std.proofs.Common.{◌≡◌, ◌≤◌, ◌<◌, ◌++◌, ◌∙◌, ℕ, All, Bool, List, [], ◌∷◌, Option, Some}
+use Rattle.std.proofs.Common.{None, ap, arith, filter, inl, inr, length, map, refl, subst, sym}
+use Rattle.std.proofs.Common.{take, ◌==◌, flat_map, nat_lt, ◌-◌, ◌+◌, min, eq-eqb, ne_eqb}
+use Rattle.std.proofs.lemmas.{Bool.cases_eq, Grind.flat_map-append, List.length-map}
 use Rattle.std.proofs.lemmas.{List.map-append, List.Elements.All-head, List.Elements.All-tail}
-use Rattle.std.proofs.lemmas.{List.Elements.filter-append, Simd.map-map}
-use Rattle.aeth_base.specs.declared.ids.Channel.{Channel}
-use Rattle.aeth_base.proofs.Filters.{filter-map, filter-swap}
-use Rattle.aeth_group.specs.Members.{GroupsData, group_at, groups_of, has_at}
-use Rattle.aeth_group.proofs.MemberLemmas.{connections-groups_of}
+use Rattle.std.proofs.lemmas.{Simd.map-map, Option.slice_get-get_or}
+use Rattle.std.specs.List.{range_with_len, Sorted.IsNonDecreasingBy}
+use Rattle.aeth_trace.proofs.OrderLemmas.{first_least, later_rise, rise-cons, rise-filter}
 use Rattle.aeth_trace.specs.{Channels.channel_number, Spans.SpanData}
 use Rattle.aeth_trace.specs.{declared.switches.SwitchRow.SwitchRow}
+use Rattle.aeth_base.specs.declared.ids.Channel.{Channel}
+use Rattle.aeth_base.proofs.{Filters.filter-map, Filters.filter-swap, Members.All-from_map}
+use Rattle.aeth_group.specs.Members.{GroupsData, group_at, groups_of, has_at}
+use Rattle.aeth_group.proofs.MemberLemmas.{connections-groups_of}
+use Rattle.aeth_report.specs.Channels.{channels_with}
 use Rattle.aeth_report.specs.declared.session.Session.{Session}
 use Rattle.aeth_report.specs.Flows.{close_at, sessions_in}
-use Rattle.aeth_report.specs.Sessions.{Stay, Switch, go_of, opens, session_of, stay_with}
-use Rattle.aeth_report.specs.Sessions.{stays_behind, stays_of}
+use Rattle.aeth_report.specs.Sessions.{Stay, Switch, go_of, opens, session_of, stays_of}
+use Rattle.aeth_report.specs.SessionList.{ChannelSession, ConnectionStay, both_of, entered_behind}
+use Rattle.aeth_report.specs.SessionList.{entered_with, entered_from, is_on, listed_at, no_session}
+use Rattle.aeth_report.specs.SessionList.{session_list, stay_by}
 use Rattle.aeth_report.proofs.Stays.{opened, switch_of}
+use Rattle.aeth_report.proofs.ChannelSessions.{sessions-on}
+use Rattle.aeth_report.proofs.ListOrder.{early-first, early-within, sessions-rise}
 use Rattle.aeth_reconf.specs.Rows.{channels_that}
 use Rattle.aeth_accepted.specs.Inputs.{AreAccepted, Inputs, run_of}
 use Rattle.aeth_schedule.specs.Goings.{going_by, goings_behind, goings_from, goings_of, session_by}
 use Rattle.aeth_schedule.specs.Lines.{all_lines, changed_lines, end_of, lines_at}
 use Rattle.aeth_schedule.specs.Values.{before_of, start_of}
 use Rattle.aeth_schedule.specs.declared.{going.Going.Going, lines.Line.Line}
-use Rattle.aeth_stimuli.specs.Stimuli.{goings_over, is_over}
-use Rattle.aeth_stimuli.specs.Sessions.{SessionGoing, as_going, going_of}
-use Rattle.aeth_stimuli.proofs.ChannelLists.{is_it, one-of, one_where, one_where-map}
+use Rattle.aeth_stimuli.specs.Sessions.{SessionGoing, as_going, going_of, session_going}
+use Rattle.aeth_stimuli.specs.Stimuli.{goings_over}
+use Rattle.aeth_stimuli.proofs.ChannelLists.{same_numbers}
+use Rattle.aeth_stimuli.proofs.OfferedWords.{rise-map}
 use Rattle.aeth_stimuli.proofs.UseLines.{ShapedLine, changed-shaped, line_of, lines-shaped, shaped}
+
+-- The sessions that come with a use case are those of the channels of their connections, in channel
+-- order.
+pub entered-channels : (groups : GroupsData) (opening : Option Switch) (u : ℕ)
+    (rows : List SwitchRow) (cs : List ℕ)
+    → flat_map both_of (map (stay_by groups opening u rows) cs)
+    ≡ map (λ (channel : Channel). record {
+      channel = channel;
+      stay = opened groups channel.conn.0 opening u rows;
+    }) (flat_map channels_with cs)
+entered-channels groups opening u rows [] = refl
+entered-channels groups opening u rows (c ∷ cs) =
+    let rest = entered-channels groups opening u rows cs in
+    ap (λ (later : List ChannelSession). both_of (stay_by groups opening u rows c) ++ later) rest
+
+-- Items are in order where their images are.
+rise-from : {X Y : Type 0} (f : X → Y) (n : Y → ℕ) (xs : List X)
+    → IsNonDecreasingBy n (map f xs) → IsNonDecreasingBy (λ x. n (f x)) xs
+rise-from f n [] rises = λ i j d le within. absurd (omega (arith, within))
+rise-from f n (x ∷ xs) rises =
+    rise-cons (λ z. n (f z)) x xs
+    (All-from_map f (λ y. n (f x) ≤ n y) xs (first_least n (f x) (map f xs) rises))
+    (rise-from f n xs (later_rise n (f x) (map f xs) rises))
 
 module _ (inputs : Inputs) where
   abbrev groups : GroupsData
@@ -33,13 +65,25 @@ module _ (inputs : Inputs) where
   abbrev spans : SpanData
   spans = (run_of inputs).spans
 
-  -- The session of a line's channel that comes with a use case by a switch.
+  abbrev shown : List ConnectionStay → List SessionGoing
+  shown list = map (session_going inputs) (flat_map both_of list)
+
+  -- When one goes, and those that go within the run.
+  abbrev gone : ChannelSession → ℕ
+  gone session = go_of (run_of inputs).spans session.stay.opening
+
+  abbrev kept : List ChannelSession
+  kept = filter (λ session. nat_lt (gone session) inputs.cycles) (session_list (run_of inputs))
+
   abbrev by : Option Switch → ℕ → List SwitchRow → Line → Going
   by = going_by groups spans (all_lines inputs) inputs.words inputs.cycles
 
-  -- The same of a line with its shape in numbers.
-  abbrev shown : Option Switch → ℕ → List SwitchRow → ShapedLine → SessionGoing
-  shown opening u rows line =
+  abbrev behind : ℕ → List SwitchRow → List Going
+  behind = goings_behind groups spans (all_lines inputs) inputs.words inputs.cycles
+
+  -- The session of a line with its shape in numbers.
+  abbrev of_line : Option Switch → ℕ → List SwitchRow → ShapedLine → SessionGoing
+  of_line opening u rows line =
       let channel = line.row.channel in
       let go = go_of spans opening in
       let close =
@@ -65,116 +109,148 @@ module _ (inputs : Inputs) where
         };
       }
 
-  module _ (channel : Channel) (known : channel.conn.0 < length inputs.app.connections) where
-    -- A stay's session, as it goes.
-    abbrev going : Stay → SessionGoing
-    going stay = going_of inputs channel (session_of spans stay)
+  -- The sessions of lines, before others.
+  joined : (test : ℕ → Bool) (opening : Option Switch) (u : ℕ) (rows : List SwitchRow)
+      (lines : List Line) (goings : List Going) (later : List ConnectionStay)
+      → map shaped lines ≡ map (line_of inputs (group_at groups u)) (channels_that groups test)
+      → map as_going goings ≡ shown later
+      → map as_going (map (by opening u rows) lines ++ goings)
+      ≡ shown (entered_with groups test opening u rows ++ later)
+  joined test opening u rows lines goings later same rest =
+      let show = of_line opening u rows in
+      let line = line_of inputs (group_at groups u) in
+      let cs = filter test (range_with_len 0 groups.connections) in
+      let channels = flat_map channels_with cs in
+      let now = entered_with groups test opening u rows in
+      let session : Channel → ChannelSession = λ channel. record {
+        channel = channel;
+        stay = opened groups channel.conn.0 opening u rows;
+      } in
+      let first : map as_going (map (by opening u rows) lines) ≡ shown now =
+      map-map as_going (by opening u rows) lines
+      ∙ sym (map-map show shaped lines)
+      ∙ ap (map show) same
+      ∙ map-map show line channels
+      ∙ sym (map-map (session_going inputs) session channels)
+      ∙ ap (map (session_going inputs)) (sym (entered-channels groups opening u rows cs)) in
+      map-append as_going (map (by opening u rows) lines) goings
+      ∙ (λ k. first k ++ rest k)
+      ∙ sym (map-append (session_going inputs) (flat_map both_of now) (flat_map both_of later))
+      ∙ ap (map (session_going inputs)) (sym (flat_map-append both_of now later))
 
-    -- Of the lines of channels that pass a test one alone gives a session of the channel, where the
-    -- channel does.
-    opened-goings : (test : ℕ → Bool) (opening : Option Switch) (u : ℕ) (rows : List SwitchRow)
-        (lines : List Line)
-        → map shaped lines ≡ map (line_of inputs (group_at groups u)) (channels_that groups test)
-        → map as_going (goings_over (channel_number channel) (map (by opening u rows) lines))
-        ≡ one_where (test channel.conn.0) (going (opened groups channel.conn.0 opening u rows))
-    opened-goings test opening u rows lines same =
-        let over = is_over (channel_number channel) in
-        let own : ShapedLine → Bool = λ one. is_it channel one.row.channel in
-        let show = shown opening u rows in
-        let line = line_of inputs (group_at groups u) in
-        let channels = channels_that groups test in
-        let count = connections-groups_of inputs.app in
-        let one = one-of channel test 0 groups.connections (omega arith)
-        (omega (arith, known, count)) in
-        ap (map as_going) (filter-map over (by opening u rows) lines)
-        ∙ map-map as_going (by opening u rows)
-        (filter (λ (l : Line). over (by opening u rows l)) lines)
-        ∙ sym (map-map show shaped (filter (λ (l : Line). own (shaped l)) lines))
-        ∙ ap (map show) (sym (filter-map own shaped lines))
-        ∙ ap (λ (ls : List ShapedLine). map show (filter own ls)) same
-        ∙ ap (map show) (filter-map own line channels)
-        ∙ map-map show line (filter (is_it channel) channels)
-        ∙ ap (map (λ (ch : Channel). show (line ch))) one
-        ∙ one_where-map (λ (ch : Channel). show (line ch)) (test channel.conn.0) channel
+  module _ (accepted : AreAccepted inputs) where
+    abbrev AreRows : List SwitchRow → Type 0
+    AreRows rows = All (λ row. row.to.0 < length inputs.app.uses) rows
 
-    -- The stay that comes with a use case, before others.
-    with-stay : (test : Bool) (opening : Option Switch) (u : ℕ) (rows : List SwitchRow)
-        (later : List Stay)
-        → one_where test (going (opened groups channel.conn.0 opening u rows)) ++ map going later
-        ≡ map going (stay_with groups channel.conn.0 test opening u rows later)
-    with-stay true opening u rows later = refl
-    with-stay false opening u rows later = refl
+    behind-are : (u : ℕ) (rows : List SwitchRow) → AreRows rows
+        → map as_going (behind u rows) ≡ shown (entered_behind groups u rows)
+    behind-are u [] fit = refl
+    behind-are u (row ∷ rows) fit =
+        let v = row.to.0 in
+        let fits = λ (one : SwitchRow). one.to.0 < length inputs.app.uses in
+        joined (opens groups u v) (Some (switch_of u row)) v rows
+        (changed_lines groups u v (lines_at (all_lines inputs) v)) (behind v rows)
+        (entered_behind groups v rows)
+        (changed-shaped inputs accepted v (All-head fits row rows fit) u)
+        (behind-are v rows (All-tail fits row rows fit))
 
-    module _ (accepted : AreAccepted inputs) where
-      -- Each row enters a known use case.
-      abbrev AreRows : List SwitchRow → Type 0
-      AreRows rows = All (λ row. row.to.0 < length inputs.app.uses) rows
+    from-are : (rows : List SwitchRow) → AreRows rows
+        → map as_going
+        (goings_from groups spans (all_lines inputs) inputs.words inputs.cycles rows)
+        ≡ shown (entered_from groups rows)
+    from-are [] fit = refl
+    from-are (row ∷ rows) fit =
+        let u = row.to.0 in
+        let fits = λ (one : SwitchRow). one.to.0 < length inputs.app.uses in
+        joined (has_at groups u) None u rows (lines_at (all_lines inputs) u) (behind u rows)
+        (entered_behind groups u rows)
+        (lines-shaped inputs accepted u (All-head fits row rows fit))
+        (behind-are u rows (All-tail fits row rows fit))
 
-      -- The sessions that rows open.
-      behind-are : (u : ℕ) (rows : List SwitchRow) → AreRows rows
-          → map as_going (goings_over (channel_number channel)
-          (goings_behind groups spans (all_lines inputs) inputs.words inputs.cycles u rows))
-          ≡ map going (stays_behind groups channel.conn.0 u rows)
-      behind-are u [] fit = refl
-      behind-are u (row ∷ rows) fit =
-          let v = row.to.0 in
-          let fits = λ (one : SwitchRow). one.to.0 < length inputs.app.uses in
-          let over = is_over (channel_number channel) in
-          let opening = Some (switch_of u row) in
-          let lines = changed_lines groups u v (lines_at (all_lines inputs) v) in
-          let now = opened-goings (opens groups u v) opening v rows lines
-          (changed-shaped inputs accepted v (All-head fits row rows fit) u) in
-          let rest = behind-are v rows (All-tail fits row rows fit) in
-          let first = map (by opening v rows) lines in
-          let later =
-          goings_behind groups spans (all_lines inputs) inputs.words inputs.cycles v rows in
-          ap (map as_going) (filter-append over first later)
-          ∙ map-append as_going (filter over first) (filter over later)
-          ∙ (λ k. now k ++ rest k)
-          ∙ with-stay (opens groups u v channel.conn.0) opening v rows
-          (stays_behind groups channel.conn.0 v rows)
+    -- The sessions that go within a run are those of the list that do, in its order.
+    pub goings-sessions : map as_going (goings_of inputs)
+        ≡ map (session_going inputs) kept
+    unfolding goings_of
+    goings-sessions =
+        let early = λ (going : SessionGoing). nat_lt going.lane.go inputs.cycles in
+        sym (filter-map early as_going
+        (goings_from groups spans (all_lines inputs) inputs.words inputs.cycles inputs.switches))
+        ∙ ap (filter early) (from-are inputs.switches accepted.switches.known)
+        ∙ filter-map early (session_going inputs) (session_list (run_of inputs))
 
-      -- Those of a list of rows.
-      from-are : (rows : List SwitchRow) → AreRows rows
-          → map as_going (goings_over (channel_number channel)
-          (goings_from groups spans (all_lines inputs) inputs.words inputs.cycles rows))
-          ≡ map going (stays_of groups channel.conn.0 rows)
-      from-are [] fit = refl
-      from-are (row ∷ rows) fit =
-          let u = row.to.0 in
-          let fits = λ (one : SwitchRow). one.to.0 < length inputs.app.uses in
-          let over = is_over (channel_number channel) in
-          let lines = lines_at (all_lines inputs) u in
-          let now = opened-goings (has_at groups u) None u rows lines
-          (lines-shaped inputs accepted u (All-head fits row rows fit)) in
-          let rest = behind-are u rows (All-tail fits row rows fit) in
-          let first = map (by None u rows) lines in
-          let later =
-          goings_behind groups spans (all_lines inputs) inputs.words inputs.cycles u rows in
-          ap (map as_going) (filter-append over first later)
-          ∙ map-append as_going (filter over first) (filter over later)
-          ∙ (λ k. now k ++ rest k)
-          ∙ with-stay (has_at groups u channel.conn.0) None u rows
-          (stays_behind groups channel.conn.0 u rows)
+    kept-count : length kept ≡ length (goings_of inputs)
+    kept-count = sym (length-map kept (session_going inputs)) ∙ ap length (sym goings-sessions)
+        ∙ length-map (goings_of inputs) as_going
 
-      -- So those of a run are the sessions of its connection that go within it.
+    -- They are its first ones: a session that goes has one number in both.
+    pub goings-first : map as_going (goings_of inputs)
+        ≡ map (session_going inputs)
+        (take (length (goings_of inputs)) (session_list (run_of inputs)))
+    goings-first =
+        let all = session_list (run_of inputs) in
+        goings-sessions
+        ∙ ap (map (session_going inputs)) (early-first gone inputs.cycles all
+        (sessions-rise (run_of inputs) accepted.switches.apart) ∙ ap (λ n. take n all) kept-count)
+
+    -- Each session of the list that goes within the run is among them.
+    pub goings-early : (c : ℕ) → c < length (session_list (run_of inputs))
+        → go_of (run_of inputs).spans (listed_at (run_of inputs) c).stay.opening < inputs.cycles
+        → c < length (goings_of inputs)
+    goings-early c within early =
+        let all = session_list (run_of inputs) in
+        let count = kept-count in
+        let there = early-within gone inputs.cycles all c (listed_at (run_of inputs) c)
+        (sessions-rise (run_of inputs) accepted.switches.apart)
+        (slice_get-get_or all c no_session within) early in
+        omega (arith, there, count)
+
+    -- Of a channel they are those of its connection.
+    module _ (channel : Channel) (known : channel.conn.0 < length inputs.app.connections) where
+      abbrev own : Stay → ChannelSession
+      own stay = record { channel = channel; stay = stay }
+
+      same-test : (session : ChannelSession)
+          → (channel_number session.channel == channel_number channel) ≡ is_on channel session
+      same-test session =
+          let number = channel_number channel in
+          let other = channel_number session.channel in
+          elim (cases_eq number other) [
+            | inl same ↦ eq-eqb other number (sym same) ∙ sym (eq-eqb number other same)
+            | inr apart ↦ ne_eqb other number (λ same. apart (sym same))
+                ∙ sym (ne_eqb number other apart)
+          ] ∙ same_numbers channel session.channel
+
       pub goings-are : map as_going (goings_over (channel_number channel) (goings_of inputs))
-          ≡ map (going_of inputs channel)
-          (filter (λ session. nat_lt session.go inputs.cycles)
+          ≡ map (going_of inputs channel) (filter (λ session. nat_lt session.go inputs.cycles)
           (sessions_in (run_of inputs) channel.conn.0))
-      unfolding goings_of
       goings-are =
-          let over = is_over (channel_number channel) in
-          let all = goings_from groups spans (all_lines inputs) inputs.words inputs.cycles
-          inputs.switches in
+          let over =
+          λ (going : SessionGoing). channel_number going.channel == channel_number channel in
+          let early = λ (session : ChannelSession). nat_lt (gone session) inputs.cycles in
+          let now = λ (session : Session). nat_lt session.go inputs.cycles in
+          let all = session_list (run_of inputs) in
           let stays = stays_of groups channel.conn.0 inputs.switches in
-          let within : Going → Bool = λ one. nat_lt one.lane.go inputs.cycles in
-          let shown_within : SessionGoing → Bool = λ one. nat_lt one.lane.go inputs.cycles in
-          let goes : Session → Bool = λ one. nat_lt one.go inputs.cycles in
-          let going_stays = filter (λ (s : Stay). goes (session_of spans s)) stays in
-          ap (map as_going) (filter-swap over within all)
-          ∙ sym (filter-map shown_within as_going (goings_over (channel_number channel) all))
-          ∙ ap (filter shown_within) (from-are inputs.switches accepted.switches.known)
-          ∙ filter-map shown_within going stays
-          ∙ sym (map-map (going_of inputs channel) (session_of spans) going_stays)
-          ∙ ap (map (going_of inputs channel)) (sym (filter-map goes (session_of spans) stays))
+          let some = filter (λ (stay : Stay). early (own stay)) stays in
+          let count = connections-groups_of inputs.app in
+          sym (filter-map over as_going (goings_of inputs))
+          ∙ ap (filter over) goings-sessions
+          ∙ filter-map over (session_going inputs) (filter early all)
+          ∙ (λ k. map (session_going inputs) (filter (λ (s : ChannelSession). same-test s k)
+          (filter early all)))
+          ∙ ap (map (session_going inputs)) (filter-swap (is_on channel) early all
+          ∙ ap (filter early) (sessions-on (run_of inputs) channel (omega (arith, known, count)))
+          ∙ filter-map early own stays)
+          ∙ map-map (session_going inputs) own some
+          ∙ sym (map-map (going_of inputs channel) (session_of spans) some)
+          ∙ ap (map (going_of inputs channel)) (sym (filter-map now (session_of spans) stays))
+
+    -- They go one after the other.
+    pub goings-ordered : IsNonDecreasingBy (λ going. going.lane.go) (goings_of inputs)
+    goings-ordered =
+        let go = λ (going : SessionGoing). going.lane.go in
+        rise-from as_going go (goings_of inputs)
+        (subst (λ (list : List SessionGoing). IsNonDecreasingBy go list) (sym goings-sessions)
+        (rise-map go (session_going inputs) kept
+        (rise-filter gone (λ session. nat_lt (gone session) inputs.cycles)
+        (session_list (run_of inputs))
+        (sessions-rise (run_of inputs) accepted.switches.apart))))

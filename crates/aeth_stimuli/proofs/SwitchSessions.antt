@@ -2,22 +2,22 @@
 use Rattle.std.proofs.Common.{◌≡◌, ◌≤◌, ◌<◌, ◌∙◌, ◌+◌, ℕ, zero, suc, true, List, [], ◌∷◌, Contains}
 use Rattle.std.proofs.Common.{Option, Some, ap, arith, inl, inr, length, refl, slice_get, subst}
 use Rattle.std.proofs.Common.{sym, ◌==◌, IfSome, option_map, unwrap_or, eq-eqb, eqb-true}
-use Rattle.std.proofs.lemmas.Bool.{cases_Bool}
-use Rattle.std.proofs.lemmas.Option.{get_or_from_slice_get, same_Some, slice_get_within}
+use Rattle.std.proofs.lemmas.{Bool.cases_Bool, Option.same_Some}
 use Rattle.std.specs.List.{list_any, position_or_len}
 use Rattle.aeth_base.specs.declared.ids.Channel.{Channel}
 use Rattle.aeth_slots.specs.SlotSet.{Ascends}
 use Rattle.aeth_group.specs.Members.{GroupsData, group_at, groups_of}
 use Rattle.aeth_report.specs.Sessions.{Stay, Switch, close_by}
+use Rattle.aeth_report.specs.SessionList.{ChannelSession, session_list, listed_at}
 use Rattle.aeth_report.proofs.Stays.{AreKnown, IsClosedBy, stays_of-is}
+use Rattle.aeth_report.proofs.SessionNumbers.{numbered}
 use Rattle.aeth_reconf.specs.Rows.{RowOf}
 use Rattle.aeth_reconf.specs.Windows.{IsClosed, IsOpened, cleared_of, freed_of, set_of, slot_set_of}
 use Rattle.aeth_tables.proofs.ListLaws.{place_in}
 use Rattle.aeth_accepted.specs.Inputs.{Inputs, design_of, row_at, run_of}
-use Rattle.aeth_fabric.specs.Fabric.{Placed, cleared_by, flow_in, freed_by, freed_in, no_placed}
-use Rattle.aeth_fabric.specs.Fabric.{passage_of, placed_at, placed_of, row_in, slot_at}
+use Rattle.aeth_fabric.specs.Fabric.{cleared_by, flow_in, freed_by, freed_in, row_in, slot_at}
 use Rattle.aeth_fabric.specs.Fabric.{slot_freed_in, slot_set_in, stays_in}
-use Rattle.aeth_fabric.proofs.{ApartWires.past, Numbers.numbered}
+use Rattle.aeth_fabric.proofs.ApartWires.{past}
 use Rattle.aeth_schedule.specs.Switching.{later_switches}
 use Rattle.aeth_stimuli.proofs.StaySwitches.{closed-stay, opened-stay}
 
@@ -75,7 +75,7 @@ module _ (inputs : Inputs) where
   row_of = row_at (design_of inputs)
 
   -- The cycles of a session that a switch closes.
-  pub record IsClosedWith (p : Placed) (switch : Switch) : Type 0 where
+  pub record IsClosedWith (p : ChannelSession) (switch : Switch) : Type 0 where
     pub stop : (flow_in (run_of inputs) p).server.stop
         ≡ (close_by (run_of inputs).spans switch).stop
     pub finish : (flow_in (run_of inputs) p).server.finish
@@ -87,7 +87,7 @@ module _ (inputs : Inputs) where
         ≡ cleared_of (groups_of inputs.app) (row_at (design_of inputs)) (run_of inputs).spans
         p.channel switch (slot_at (run_of inputs) p x)
 
-  pub closed-with : (p : Placed) (switch : Switch) → p.stay.closing ≡ Some switch
+  pub closed-with : (p : ChannelSession) (switch : Switch) → p.stay.closing ≡ Some switch
       → IsClosedWith p switch
   closed-with p switch closing =
       let run = run_of inputs in
@@ -101,15 +101,16 @@ module _ (inputs : Inputs) where
       }
 
   -- And of one that it opens.
-  pub record IsOpenedWith (p : Placed) (switch : Switch) : Type 0 where
-    pub set : (passage_of (run_of inputs) p).set
+  pub record IsOpenedWith (p : ChannelSession) (switch : Switch) : Type 0 where
+    pub set : set_of (groups_of inputs.app) (row_at (design_of inputs)) (run_of inputs).spans
+        p.channel p.stay.opening
         ≡ set_of (groups_of inputs.app) (row_at (design_of inputs)) (run_of inputs).spans
         p.channel (Some switch)
     pub slot_set : (x : ℕ) → slot_set_in (run_of inputs) p x
         ≡ slot_set_of (groups_of inputs.app) (row_at (design_of inputs)) (run_of inputs).spans
         p.channel (Some switch) (slot_at (run_of inputs) p x)
 
-  pub opened-with : (p : Placed) (switch : Switch) → p.stay.opening ≡ Some switch
+  pub opened-with : (p : ChannelSession) (switch : Switch) → p.stay.opening ≡ Some switch
       → IsOpenedWith p switch
   opened-with p switch opening =
       let spans = (run_of inputs).spans in
@@ -124,9 +125,9 @@ module _ (inputs : Inputs) where
   -- A stay of a channel has a number.
   pub record IsNumbered (channel : Channel) (stay : Stay) : Type 0 where
     pub c : ℕ
-    pub known : c < length (placed_of (run_of inputs))
-    pub channel_is : (placed_at (run_of inputs) c).channel ≡ channel
-    pub stay_is : (placed_at (run_of inputs) c).stay ≡ stay
+    pub known : c < length (session_list (run_of inputs))
+    pub channel_is : (listed_at (run_of inputs) c).channel ≡ channel
+    pub stay_is : (listed_at (run_of inputs) c).stay ≡ stay
 
   pub number-of : (channel : Channel) → channel.conn.0 < (groups_of inputs.app).connections
       → (stay : Stay) → Contains (stays_in (run_of inputs) channel.conn.0) stay
@@ -134,24 +135,22 @@ module _ (inputs : Inputs) where
   number-of channel inside stay has =
       let run = run_of inputs in
       let (i, at) = place_in (stays_in run channel.conn.0) stay has in
-      let (c, there) = numbered run channel i stay inside at in
-      let p : Placed = record { channel = channel; place = i; stay = stay } in
-      let same : placed_at run c ≡ p = get_or_from_slice_get (placed_of run) c p no_placed there in
+      let found = numbered run channel i stay inside at in
       record {
-        c = c;
-        known = slice_get_within (placed_of run) c p there;
-        channel_is = ap (λ (q : Placed). q.channel) same;
-        stay_is = ap (λ (q : Placed). q.stay) same;
+        c = found.number;
+        known = found.known;
+        channel_is = ap (λ (q : ChannelSession). q.channel) found.is;
+        stay_is = ap (λ (q : ChannelSession). q.stay) found.is;
       }
 
   -- The session of a channel in a group, which has a row.
   pub record IsIn (c group : ℕ) (channel : Channel) : Type 0 where
-    pub known : c < length (placed_of (run_of inputs))
-    pub channel_is : (placed_at (run_of inputs) c).channel ≡ channel
-    pub group_is : (placed_at (run_of inputs) c).stay.group ≡ group
+    pub known : c < length (session_list (run_of inputs))
+    pub channel_is : (listed_at (run_of inputs) c).channel ≡ channel
+    pub group_is : (listed_at (run_of inputs) c).stay.group ≡ group
 
   pub row-is : (c group : ℕ) (channel : Channel) → IsIn c group channel
-      → row_in (run_of inputs) (placed_at (run_of inputs) c)
+      → row_in (run_of inputs) (listed_at (run_of inputs) c)
       ≡ row_at (design_of inputs) group channel
   row-is c group channel is = λ i. row_at (design_of inputs) (is.group_is i) (is.channel_is i)
 
@@ -159,13 +158,13 @@ module _ (inputs : Inputs) where
   pub record IsClosedAt (switch : Switch) (channel : Channel) : Type 0 where
     pub c : ℕ
     pub is : IsIn c (group_at (groups_of inputs.app) switch.leaves) channel
-    pub closing : (placed_at (run_of inputs) c).stay.closing ≡ Some switch
+    pub closing : (listed_at (run_of inputs) c).stay.closing ≡ Some switch
 
   -- The session that one opens, or that is loaded.
   pub record IsOpenedAt (opening : Option Switch) (group : ℕ) (channel : Channel) : Type 0 where
     pub c : ℕ
     pub is : IsIn c group channel
-    pub opening_is : (placed_at (run_of inputs) c).stay.opening ≡ opening
+    pub opening_is : (listed_at (run_of inputs) c).stay.opening ≡ opening
 
   module _ (switch : Switch) (is_switch : Contains (later_switches inputs.switches) switch)
       (channel : Channel) where

@@ -11,11 +11,11 @@ use Rattle.aeth_trace.specs.{Channels.is_channel, Words.words_on, declared.words
 use Rattle.aeth_trace.proofs.OrderLemmas.{rise-filter}
 use Rattle.aeth_report.specs.Flows.{close_at, is_within}
 use Rattle.aeth_report.specs.Sessions.{Switch, close_by, go_of}
+use Rattle.aeth_report.specs.SessionList.{ChannelSession, session_list, listed_at, place_at}
+use Rattle.aeth_report.proofs.SessionNumbers.{IsListedAt, listed-there, one_number}
 use Rattle.aeth_refinement.specs.{Carried.words_from, Fabric.flow_at}
 use Rattle.aeth_accepted.specs.Inputs.{AreAccepted, Inputs, run_of}
-use Rattle.aeth_fabric.specs.Fabric.{Placed, ended, fabric_of, placed_at, placed_of, session_in}
-use Rattle.aeth_fabric.specs.Fabric.{stays_in}
-use Rattle.aeth_fabric.proofs.Numbers.{IsPlacedAt, one_number, placed-there}
+use Rattle.aeth_fabric.specs.Fabric.{ended, fabric_of, session_in, stays_in}
 use Rattle.aeth_schedule.specs.Values.{before_of, start_of, values_of, values_on}
 use Rattle.aeth_invariant.specs.Places.{ArePlaced}
 use Rattle.aeth_stimuli.specs.Sessions.{first_of}
@@ -80,16 +80,16 @@ module _ (words : List WordRow) (connections : ℕ) (channel : Channel)
 
 module _ (inputs : Inputs) (accepted : AreAccepted inputs) where
   -- When a session stops accepting words.
-  abbrev until_of : Placed → ℕ
-  until_of placed = (close_at inputs.cycles (session_in (run_of inputs) placed)).until
+  abbrev until_of : ChannelSession → ℕ
+  until_of session = (close_at inputs.cycles (session_in (run_of inputs) session)).until
 
   -- A session by its number, of a connection of the application.
-  is : (c : ℕ) → c < length (placed_of (run_of inputs))
-      → IsPlacedAt (run_of inputs) c (placed_at (run_of inputs) c)
-  is c within = placed-there (run_of inputs) c within
+  is : (c : ℕ) → c < length (session_list (run_of inputs))
+      → IsListedAt (run_of inputs) c (listed_at (run_of inputs) c)
+  is c within = listed-there (run_of inputs) c within
 
-  known-at : (c : ℕ) → c < length (placed_of (run_of inputs))
-      → (placed_at (run_of inputs) c).channel.conn.0 < length inputs.app.connections
+  known-at : (c : ℕ) → c < length (session_list (run_of inputs))
+      → (listed_at (run_of inputs) c).channel.conn.0 < length inputs.app.connections
   known-at c within =
       let known = (is c within).known in
       let count = connections-groups_of inputs.app in
@@ -100,7 +100,7 @@ module _ (inputs : Inputs) (accepted : AreAccepted inputs) where
       → words_from (values_of inputs.words (length inputs.app.connections)) (first_of inputs c)
       (length (flow_at (fabric_of inputs) c).values) ≡ (flow_at (fabric_of inputs) c).values
   values-placed c within =
-      let p = placed_at (run_of inputs) c in
+      let p = listed_at (run_of inputs) c in
       window-values inputs.words (length inputs.app.connections) p.channel (known-at c within)
       (go_of (run_of inputs).spans p.stay.opening) (until_of p) accepted.words.order
 
@@ -109,7 +109,7 @@ module _ (inputs : Inputs) (accepted : AreAccepted inputs) where
       → first_of inputs c + length (flow_at (fabric_of inputs) c).values
       ≤ length (values_of inputs.words (length inputs.app.connections))
   placed-within c within =
-      let p = placed_at (run_of inputs) c in
+      let p = listed_at (run_of inputs) c in
       let go = go_of (run_of inputs).spans p.stay.opening in
       let rows = filter (is_within go (until_of p)) (words_on inputs.words p.channel) in
       let fits = window-placed inputs.words (length inputs.app.connections) p.channel
@@ -119,11 +119,11 @@ module _ (inputs : Inputs) (accepted : AreAccepted inputs) where
 
   -- The place of a word among those of its channel.
   place-on : (c i : ℕ) → i < length (flow_at (fabric_of inputs) c).values
-      → before_of inputs.words (placed_at (run_of inputs) c).channel
-      (go_of (run_of inputs).spans (placed_at (run_of inputs) c).stay.opening) + i
-      < length (words_on inputs.words (placed_at (run_of inputs) c).channel)
+      → before_of inputs.words (listed_at (run_of inputs) c).channel
+      (go_of (run_of inputs).spans (listed_at (run_of inputs) c).stay.opening) + i
+      < length (words_on inputs.words (listed_at (run_of inputs) c).channel)
   place-on c i below_count =
-      let p = placed_at (run_of inputs) c in
+      let p = listed_at (run_of inputs) c in
       let go = go_of (run_of inputs).spans p.stay.opening in
       let rows = filter (is_within go (until_of p)) (words_on inputs.words p.channel) in
       let len = length-map rows (λ (row : WordRow). row.value) in
@@ -132,33 +132,34 @@ module _ (inputs : Inputs) (accepted : AreAccepted inputs) where
       omega (arith, below_count, len, within, before)
 
   -- A switch closes a session when it says.
-  until-is : (placed : Placed) (switch : Switch) → placed.stay.closing ≡ Some switch
-      → until_of placed ≡ (close_by (run_of inputs).spans switch).until
-  until-is placed switch closing =
+  until-is : (session : ChannelSession) (switch : Switch) → session.stay.closing ≡ Some switch
+      → until_of session ≡ (close_by (run_of inputs).spans switch).until
+  until-is session switch closing =
       let until : Option Switch → ℕ = λ o. (close_at inputs.cycles (ended inputs.cycles (record {
-        go = go_of (run_of inputs).spans placed.stay.opening;
-        group = record { 0 = placed.stay.group };
+        go = go_of (run_of inputs).spans session.stay.opening;
+        group = record { 0 = session.stay.group };
         close = option_map (close_by (run_of inputs).spans) o;
       }))).until in
       ap until closing
 
   -- The words of an earlier session of a channel come before those of a later one.
-  earlier-words : (c d i j : ℕ) → c < length (placed_of (run_of inputs))
-      → d < length (placed_of (run_of inputs))
-      → (placed_at (run_of inputs) c).channel ≡ (placed_at (run_of inputs) d).channel
-      → (placed_at (run_of inputs) c).place < (placed_at (run_of inputs) d).place
+  earlier-words : (c d i j : ℕ) → c < length (session_list (run_of inputs))
+      → d < length (session_list (run_of inputs))
+      → (listed_at (run_of inputs) c).channel ≡ (listed_at (run_of inputs) d).channel
+      → place_at (run_of inputs) c < place_at (run_of inputs) d
       → i < length (flow_at (fabric_of inputs) c).values
       → first_of inputs c + i ≡ first_of inputs d + j → ⊥
   earlier-words c d i j known_c known_d same less below_count equal =
       let spans = (run_of inputs).spans in
-      let p = placed_at (run_of inputs) c in
-      let q = placed_at (run_of inputs) d in
+      let p = listed_at (run_of inputs) c in
+      let q = listed_at (run_of inputs) d in
       let stays = stays_in (run_of inputs) in
-      let at : slice_get (stays q.channel.conn.0) p.place ≡ Some p.stay =
-      subst (λ (channel : Channel). slice_get (stays channel.conn.0) p.place ≡ Some p.stay) same
+      let place = place_at (run_of inputs) c in
+      let at : slice_get (stays q.channel.conn.0) place ≡ Some p.stay =
+      subst (λ (channel : Channel). slice_get (stays channel.conn.0) place ≡ Some p.stay) same
       (is c known_c).stay_at in
-      let before = stays-ordered inputs accepted q.channel.conn.0 p.place q.place p.stay q.stay less
-      at (is d known_d).stay_at in
+      let before = stays-ordered inputs accepted q.channel.conn.0 place
+      (place_at (run_of inputs) d) p.stay q.stay less at (is d known_d).stay_at in
       let go = go_of spans p.stay.opening in
       let goes = go_of spans q.stay.opening in
       let begins = before.begins in
@@ -183,8 +184,8 @@ module _ (inputs : Inputs) (accepted : AreAccepted inputs) where
       → j < length (flow_at (fabric_of inputs) d).values
       → first_of inputs c + i ≡ first_of inputs d + j → c ≡ d
   placed-once c d i j known_c known_d first second equal =
-      let p = placed_at (run_of inputs) c in
-      let q = placed_at (run_of inputs) d in
+      let p = listed_at (run_of inputs) c in
+      let q = listed_at (run_of inputs) d in
       let spans = (run_of inputs).spans in
       let one = place-on c i first in
       let two = place-on d j second in
@@ -192,8 +193,8 @@ module _ (inputs : Inputs) (accepted : AreAccepted inputs) where
       (before_of inputs.words p.channel (go_of spans p.stay.opening) + i)
       (before_of inputs.words q.channel (go_of spans q.stay.opening) + j) one two
       (omega (arith, equal)) in
-      elim (cases_order p.place q.place) [
-        | inl place ↦ one_number (run_of inputs) c d p q (is c known_c) (is d known_d) same place
+      elim (cases_order (place_at (run_of inputs) c) (place_at (run_of inputs) d)) [
+        | inl place ↦ one_number (run_of inputs) c d known_c known_d same place
         | inr apart ↦ elim apart [
           | inl less ↦ absurd (earlier-words c d i j known_c known_d same less first equal)
           | inr more ↦ absurd

@@ -1,7 +1,7 @@
 -- The sessions of a run, as they go.
 --
 --   SessionGoing, as_going      a session with its shape in numbers
---   going_of      the session of a channel as it goes
+--   going_of, session_going      the session of a channel as it goes, and one of the list
 --   channel_of, first_of      the channel of a session of the fabric, and the place of its first word
 --   IsBefore      one session is done before another goes
 -- This project's own.
@@ -10,11 +10,13 @@ use Rattle.aeth_base.specs.declared.ids.Channel.{Channel}
 use Rattle.aeth_server.specs.{ChannelShape.shape_of, Shape.Shape}
 use Rattle.aeth_trace.specs.Channels.{channel_number}
 use Rattle.aeth_report.specs.{Channels.opposite, Design.shape_at, Flows.close_at}
-use Rattle.aeth_report.specs.{declared.session.Close.Close, declared.session.Session.Session}
+use Rattle.aeth_report.specs.{Sessions.session_of, declared.session.Close.Close}
+use Rattle.aeth_report.specs.{declared.session.Session.Session, SessionList.listed_at}
+use Rattle.aeth_report.specs.{SessionList.ChannelSession}
 use Rattle.aeth_refinement.specs.Fabric.{server_at}
 use Rattle.aeth_components.specs.declared.lane.Lane.{Lane}
 use Rattle.aeth_accepted.specs.Inputs.{Inputs, design_of, row_at, run_of}
-use Rattle.aeth_fabric.specs.Fabric.{fabric_of, placed_at}
+use Rattle.aeth_fabric.specs.Fabric.{fabric_of}
 use Rattle.aeth_schedule.specs.{Lines.end_of, Values.before_of, Values.start_of}
 use Rattle.aeth_schedule.specs.{declared.going.Going.Going}
 
@@ -65,14 +67,19 @@ module _ (inputs : Inputs) where
         };
       }
 
+  -- A session of the list as it goes.
+  abbrev pub session_going : ChannelSession → SessionGoing
+  session_going session =
+      going_of session.channel (session_of (run_of inputs).spans session.stay)
+
   -- The number of the channel of a session, by its number in the fabric, and the place of its first
   -- word among those of all.
   abbrev pub channel_of : ℕ → ℕ
-  channel_of c = channel_number (placed_at (run_of inputs) c).channel
+  channel_of c = channel_number (listed_at (run_of inputs) c).channel
 
   abbrev pub first_of : ℕ → ℕ
   first_of c =
-      let channel = (placed_at (run_of inputs) c).channel in
+      let channel = (listed_at (run_of inputs) c).channel in
       start_of inputs.words channel
       + before_of inputs.words channel (server_at (fabric_of inputs) c).go
 

@@ -1,12 +1,14 @@
 //! What holds of the components of accepted inputs, over the definitions alone.
 ghost use Rattle.std.specs.Prelude.{◌≡◌, ◌≤◌, ◌<◌, ◌+◌, ◌*◌, ℕ, All, List, Some, count_by, filter};
-ghost use Rattle.std.specs.Prelude.{length, map, nat_lt, slice_get};
+ghost use Rattle.std.specs.Prelude.{length, map, nat_lt, slice_get, take};
 ghost use Rattle.std.specs.List.Sorted.{IsNonDecreasingBy, IsNonDecreasing};
 ghost use Rattle.aeth_base.specs.declared.ids.Channel.{Channel};
 ghost use Rattle.aeth_chip.specs.Chip.{ChipData, IsChip};
 ghost use Rattle.aeth_ni.specs.Limits.{queues_of_interface};
 ghost use Rattle.aeth_trace.specs.Channels.{channel_number};
 ghost use Rattle.aeth_report.specs.Flows.{sessions_in};
+ghost use Rattle.aeth_report.specs.SessionList.{listed_at, session_list};
+ghost use Rattle.aeth_report.specs.Sessions.{go_of};
 ghost use Rattle.aeth_report.specs.declared.session.Session.{Session};
 ghost use Rattle.aeth_components.specs.Components.{first_components, frames_of};
 ghost use Rattle.aeth_components.specs.Lanes.{IsLane};
@@ -25,6 +27,7 @@ ghost use Rattle.aeth_stimuli.specs.Stimuli.{goings_over, is_offered_in, stimuli
 ghost use Rattle.aeth_stimuli.specs.Loaded.{loaded_components};
 ghost use Rattle.aeth_stimuli.specs.OnChip.{HaveRooms, IsOver};
 ghost use Rattle.aeth_stimuli.specs.Sessions.{IsBefore, as_going, first_of, going_of};
+ghost use Rattle.aeth_stimuli.specs.Sessions.{session_going};
 ghost use Rattle.aeth_components.specs.Events.{IsDoable};
 ghost use Rattle.aeth_invariant.specs.Events.{AreEvents};
 ghost use Rattle.aeth_schedule.specs.Rooms.{rooms_of};
@@ -45,10 +48,18 @@ pub fn chips_begin()
         (first_components chip ByHeader rooms lanes words) }
 {}
 
-/// The sessions that go within a run are those of its connections, channel by channel: each sends and
-/// lands at the queues of its channel in its group, with its words in their places. They go one after
-/// the other.
+/// The sessions that go within a run are the first ones of its list, so a session has one number in
+/// both. Channel by channel they are those of its connections: each sends and lands at the queues
+/// of its channel in its group, with its words in their places. They go one after the other.
 pub fn sessions_go()
+    ensures numbers { (inputs : Inputs) → AreAccepted inputs
+        → map as_going (goings_of inputs)
+        ≡ map (session_going inputs)
+        (take (length (goings_of inputs)) (session_list (run_of inputs))) }
+    ensures early { (inputs : Inputs) → AreAccepted inputs → (c : ℕ)
+        → c < length (session_list (run_of inputs))
+        → go_of (run_of inputs).spans (listed_at (run_of inputs) c).stay.opening < inputs.cycles
+        → c < length (goings_of inputs) }
     ensures goings { (inputs : Inputs) → AreAccepted inputs → (channel : Channel)
         → channel.conn.0 < length inputs.app.connections
         → map as_going (goings_over (channel_number channel) (goings_of inputs))

@@ -16,7 +16,8 @@ returns c = running (record { chips_begin = c.chips_begin.ensures; runs_begin = 
     })
     c.runs_have_fabrics.ensures
     (λ inputs accepted. c.switches.ensures.each inputs.chip inputs.app (groups_of inputs.app) inputs.plan)
-    c.sessions_go.ensures.goings c.sessions_are_apart.ensures c.words_are_placed.ensures.places
+    c.sessions_go.ensures.numbers c.sessions_go.ensures.early c.sessions_are_apart.ensures
+    c.words_are_placed.ensures.places
     c.words_are_placed.ensures.values c.events_are_events.ensures.cycles
     c.events_are_events.ensures.loaded c.fabrics_are_over_chips.ensures.over
     c.fabrics_are_over_chips.ensures.rooms c.stimuli_are_stimuli.ensures

@@ -1,4 +1,4 @@
-use Rattle.aeth_stimuli.proofs.GoingLists.{goings-ordered}
+use Rattle.aeth_stimuli.proofs.SessionGoings.{goings-ordered}
 use Rattle.aeth_stimuli.proofs.StimuliFit.{goings-lanes, goings-numbered, goings-room, offers-known}
 use Rattle.aeth_stimuli.proofs.StimuliFit.{offers-ordered, takes-known, takes-ordered}
 use Rattle.aeth_stimuli.proofs.laws.stimuli_fit.Goals as goal
