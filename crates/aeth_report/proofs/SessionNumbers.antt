@@ -2,12 +2,12 @@
 -- a channel has one number, and beside it is the same stay's session on the opposite channel.
 use Rattle.std.proofs.Common.{◌≡◌, ◌<◌, ◌+◌, ◌*◌, ◌++◌, ◌∙◌, ◌==◌, ℕ, All, Bool, true, List, []}
 use Rattle.std.proofs.Common.{◌∷◌, Option, Some, None, ap, arith, eq-eqb, eqb-true, filter, length}
-use Rattle.std.proofs.Common.{map, option_map, slice_get, sym, take}
+use Rattle.std.proofs.Common.{option_map, slice_get, sym, take}
 use Rattle.std.proofs.lemmas.List.Elements.{All-append, All-filter, All-map, All-nil, filter_passes}
 use Rattle.std.proofs.lemmas.Option.{get_or_from_slice_get, slice_get-get_or, slice_get-map}
 use Rattle.std.proofs.lemmas.Option.{slice_get_within}
 use Rattle.std.specs.List.{range_with_len}
-use Rattle.aeth_base.specs.{Sides.other_side, declared.ids.Channel.Channel, declared.ids.Side.Side}
+use Rattle.aeth_base.specs.{Sides.other_side, declared.ids.Channel.Channel}
 use Rattle.aeth_base.proofs.{Lists.option_map-some, Members.All-slice_get, Ranges.All-range}
 use Rattle.aeth_group.specs.Members.{GroupsData, has_at}
 use Rattle.aeth_trace.specs.{Channels.side_number, declared.switches.SwitchRow.SwitchRow}

@@ -1,5 +1,4 @@
-use Rattle.std.proofs.Common.{ℕ, get_or, subst, arith}
-use Rattle.aeth_audit.specs.{Starts.PutsUntil, declared.row.LinkRow.LinkRow}
+use Rattle.std.proofs.Common.{arith}
 use Rattle.aeth_audit.proofs.StartLemmas.{starts-more}
 use Rattle.aeth_audit.proofs.starts.starts_of.Goals as goal
 
