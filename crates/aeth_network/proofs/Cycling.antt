@@ -92,7 +92,7 @@ module _ (all : Inside) (is : IsNetwork (vec_capacity all.state.replaced) (seen 
       let enough = is.enough in
       omega arith
 
-  module _ (rows : CycleRows) (goings : rows.goings.now ≡ goings_in (stimuli_with all.given) all.time)
+  module _ (rows : CycleRows) (goings : rows.goings ≡ goings_in (stimuli_with all.given) all.time)
       (offers : rows.offers.now ≡ offers_in (stimuli_with all.given) all.time)
       (takes : rows.takes.now ≡ takes_in (stimuli_with all.given) all.time) where
     -- A cycle can be brought.

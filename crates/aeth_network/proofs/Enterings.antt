@@ -74,24 +74,28 @@ takes-still rows_of rows (one ∷ uses) parts takes =
     (All-weaker (TakesRows rows) (λ part. TakesRows rows (entered others part))
     (part-takes rows others) parts takes))
 
--- The use cases that switches enter are known where those of all rows are.
-pub uses-known : (spans : SpanData) (n u : ℕ) (rows : List SwitchRow)
-    → All (λ row. row.to.0 < n) rows
-    → All (λ one. one.entered.0 < n) (map (entered_by spans) (switches_from u rows))
-uses-known spans n u [] known = All-nil (λ (one : EnteredUse). one.entered.0 < n)
-uses-known spans n u (row ∷ rows) known =
-    let fits = λ (one : SwitchRow). one.to.0 < n in
-    All-cons (λ (one : EnteredUse). one.entered.0 < n)
-    (entered_by spans (record { leaves = u; row = row }))
-    (map (entered_by spans) (switches_from row.to.0 rows)) (All-head fits row rows known)
-    (uses-known spans n row.to.0 rows (All-tail fits row rows known))
+-- What holds of the use cases of rows holds of those that their switches enter, and of the one that is loaded.
+module _ (spans : SpanData) (P : ℕ → Type 0) where
+  uses-all : (u : ℕ) (rows : List SwitchRow) → All (λ row. P row.to.0) rows
+      → All (λ one. P one.entered.0) (map (entered_by spans) (switches_from u rows))
+  uses-all u [] all = All-nil (λ (one : EnteredUse). P one.entered.0)
+  uses-all u (row ∷ rows) all =
+      let fits = λ (one : SwitchRow). P one.to.0 in
+      All-cons (λ (one : EnteredUse). P one.entered.0)
+      (entered_by spans (record { leaves = u; row = row }))
+      (map (entered_by spans) (switches_from row.to.0 rows)) (All-head fits row rows all)
+      (uses-all row.to.0 rows (All-tail fits row rows all))
 
-pub later-known : (spans : SpanData) (n : ℕ) (rows : List SwitchRow)
-    → All (λ row. row.to.0 < n) rows
-    → All (λ one. one.entered.0 < n) (map (entered_by spans) (later_switches rows))
-later-known spans n [] known = All-nil (λ (one : EnteredUse). one.entered.0 < n)
-later-known spans n (first ∷ rows) known =
-    uses-known spans n first.to.0 rows (All-tail (λ (one : SwitchRow). one.to.0 < n) first rows known)
+  pub later-all : (rows : List SwitchRow) → All (λ row. P row.to.0) rows
+      → All (λ one. P one.entered.0) (map (entered_by spans) (later_switches rows))
+  later-all [] all = All-nil (λ (one : EnteredUse). P one.entered.0)
+  later-all (first ∷ rows) all =
+      uses-all first.to.0 rows (All-tail (λ (one : SwitchRow). P one.to.0) first rows all)
+
+pub first-all : (P : ℕ → Type 0) (rows : List SwitchRow) → is_first_at_zero rows ≡ Ok tt
+    → All (λ row. P row.to.0) rows → P (first_use rows)
+first-all P [] first all = absurd (cc first)
+first-all P (row ∷ rows) first all = All-head (λ (one : SwitchRow). P one.to.0) row rows all
 
 -- By the windows of switches the same use cases are entered, in the same cycles.
 uses-by : (spans : SpanData) (u : ℕ) (rows : List SwitchRow)
@@ -117,9 +121,3 @@ uses-scheduled inputs schedule windows rows uses scheduled windows_are rows_are 
     ∙ ap (λ (all : List Window). later_uses all inputs.switches)
     (windows_are ∙ ap (λ (one : ScheduleData). one.windows) scheduled)
     ∙ uses-windowed (run_of inputs).spans inputs.switches
-
--- The use case that is loaded is known.
-pub first-known : (n : ℕ) (rows : List SwitchRow) → is_first_at_zero rows ≡ Ok tt
-    → All (λ row. row.to.0 < n) rows → first_use rows < n
-first-known n [] first known = absurd (cc first)
-first-known n (row ∷ rows) first known = All-head (λ (one : SwitchRow). one.to.0 < n) row rows known

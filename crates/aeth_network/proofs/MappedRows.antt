@@ -1,18 +1,14 @@
 -- Rows that are made of others, and their places.
-use Rattle.std.proofs.Common.{◌≡◌, ◌+◌, ◌-◌, ◌==◌, ◌∙◌, ℕ, List, ap, arith, drop, filter, length}
+use Rattle.std.proofs.Common.{◌≡◌, ◌+◌, ◌-◌, ◌==◌, ◌∙◌, ℕ, List, [], ◌∷◌, ap, arith, drop}
+use Rattle.std.proofs.Common.{filter, length}
 use Rattle.std.proofs.Common.{map, nat_lt, subst, sym, take, slice_range}
-use Rattle.std.proofs.lemmas.List.{drop-map, get_or-map, length-map, take-map}
+use Rattle.std.proofs.lemmas.List.{get_or-map, length-map}
 use Rattle.std.proofs.lemmas.Slice.Zip.{firsts-zip, seconds-zip}
 use Rattle.std.specs.List.{zip, Sorted.IsNonDecreasing, Sorted.IsNonDecreasingBy}
 use Rattle.aeth_base.proofs.Filters.{filter-map}
 use Rattle.aeth_components.specs.declared.event.Event.{Event}
+use Rattle.aeth_schedule.proofs.Ranges.{range-map}
 use Rattle.aeth_network.{specs.Behind.IsBehind, specs.Behind.passed, proofs.Passed.passed-range}
-
--- A part of a list whose elements are changed.
-pub range-map : {X Y : Type 0} (f : X → Y) (xs : List X) (from to : ℕ)
-    → slice_range (map f xs) from to ≡ map f (slice_range xs from to)
-range-map f xs from to =
-    ap (take (to - from)) (drop-map f from xs) ∙ take-map f (to - from) (drop from xs)
 
 -- Rows lie before a cycle as what is made of them does.
 pub passed-mapped : {X Y : Type 0} (f : X → Y) (key : Y → ℕ) (t : ℕ) (xs : List X)
@@ -65,3 +61,48 @@ events-range t cycles events size rises =
     rw (← first, ← last)
     (ap (λ (list : List Event). slice_range list from to) (sym seconds)
     ∙ range-map own both from to ∙ ap (map own) (passed-range at t both rising))
+
+-- Lists whose keys are the same have as many before a cycle.
+pub passed-keyed : {X Y : Type 0} (one : X → ℕ) (other : Y → ℕ) (t : ℕ) (xs : List X) (ys : List Y)
+    → map one xs ≡ map other ys → passed one t xs ≡ passed other t ys
+passed-keyed one other t xs ys same =
+    let key = λ (n : ℕ). n in
+    sym (passed-mapped one key t xs) ∙ ap (passed key t) same ∙ passed-mapped other key t ys
+
+-- If those of one don't fall, those of the other don't.
+rises-whole : {X Y : Type 0} (f : X → Y) (key : Y → ℕ) (xs : List X)
+    → IsNonDecreasingBy (λ x. key (f x)) xs → IsNonDecreasingBy key (map f xs)
+rises-whole f key [] rises = λ i j d le within. absurd (omega arith)
+rises-whole f key (x ∷ xs) rises = λ i j d le within.
+    let size = length-map (x ∷ xs) f in
+    let one = ap key (get_or-map f (x ∷ xs) i x d (omega arith)) in
+    let other = ap key (get_or-map f (x ∷ xs) j x d (omega arith)) in
+    let order = rises i j x le (omega arith) in
+    omega (arith, one, other, order)
+
+pub rises-keyed : {X Y : Type 0} (one : X → ℕ) (other : Y → ℕ) (xs : List X) (ys : List Y)
+    → map one xs ≡ map other ys → IsNonDecreasingBy other ys → IsNonDecreasingBy one xs
+rises-keyed one other xs ys same rises =
+    let key = λ (n : ℕ). n in
+    rises-mapped one key xs (subst (IsNonDecreasingBy key) (sym same) (rises-whole other key ys rises))
+
+-- There are as many.
+pub length-keyed : {X Y : Type 0} (one : X → ℕ) (other : Y → ℕ) (xs : List X) (ys : List Y)
+    → map one xs ≡ map other ys → length xs ≡ length ys
+length-keyed one other xs ys same =
+    sym (length-map xs one) ∙ ap length same ∙ length-map ys other
+
+-- The places of a cycle in one are those in the other.
+pub behind-keyed : {X Y : Type 0} (one : X → ℕ) (other : Y → ℕ) (t : ℕ) (xs : List X) (ys : List Y)
+    (from to : ℕ) → map one xs ≡ map other ys → IsNonDecreasingBy other ys
+    → from ≡ passed other t ys → IsBehind one t xs from to → IsBehind other t ys from to
+behind-keyed one other t xs ys from to same rises first is =
+    let size = length-keyed one other xs ys same in
+    let within = is.within in
+    let last = is.place ∙ passed-keyed one other (t + 1) xs ys same in
+    record {
+      place = last;
+      after = is.after;
+      within = omega arith;
+      rows_are = rw (first, last) (passed-range other t ys rises);
+    }

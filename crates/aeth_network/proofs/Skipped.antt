@@ -55,7 +55,7 @@ none-enter inputs all of k still within j less =
 pub brought-is : (all : Inside) → IsNetwork (vec_capacity all.state.replaced) (seen all)
     → (has : HasInputs (seen all)) → RestsOnce has.inputs (routing_with all.given)
     → IsStill (seen all) → all.time < all.log.cycles → (rows : CycleRows)
-    → rows.goings.now ≡ goings_in (stimuli_with all.given) all.time
+    → rows.goings ≡ goings_in (stimuli_with all.given) all.time
     → rows.offers.now ≡ offers_in (stimuli_with all.given) all.time
     → rows.takes.now ≡ takes_in (stimuli_with all.given) all.time
     → rows.events.now ≡ events_in (stimuli_with all.given) all.time

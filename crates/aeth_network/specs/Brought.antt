@@ -24,16 +24,16 @@ pub record CanBring (state : State) (rows : CycleRows) (time : ℕ) : Type 0 whe
   pub few_words : length state.components.words < 2 ^ 32
   pub untils : length state.untils.items ≡ length state.components.lanes
   pub outside : length state.outside.items ≡ length state.components.lanes
-  pub room : length state.replaced.items + length rows.goings.now ≤ vec_capacity state.replaced
+  pub room : length state.replaced.items + length rows.goings ≤ vec_capacity state.replaced
   pub goings : All (λ one. channel_number one.channel < length state.components.lanes)
-      rows.goings.now
+      rows.goings
   pub lanes : All (λ one. IsLane (length state.components.words) (length state.components.parts)
-      one.lane) rows.goings.now
+      one.lane) rows.goings
   pub offers : All (λ one. one.number < length state.components.lanes) rows.offers.now
   pub now : All (λ one. one.cycle ≡ time) rows.offers.now
   pub fit : AreFit (length state.components.words) (length state.components.parts)
-      (fold until_with state.untils.items rows.goings.now) rows.offers.now
-      (fold gone_with state.components.lanes rows.goings.now)
+      (fold until_with state.untils.items rows.goings) rows.offers.now
+      (fold gone_with state.components.lanes rows.goings)
   pub counts : HaveCounts rows.offers.now state.outside.items
   pub takes : All (λ one. one.number < length state.components.lanes) rows.takes.now
 
@@ -42,14 +42,14 @@ pub record CanBring (state : State) (rows : CycleRows) (time : ℕ) : Type 0 whe
 pub record IsBrought (rows : CycleRows) (time : ℕ) (old new : State) : Type 0 where
   pub components : new.components ≡ record old.components {
     lanes = fold taking_with (fold (accepted_with time new.untils.items)
-        (fold gone_with old.components.lanes rows.goings.now) rows.offers.now) rows.takes.now;
+        (fold gone_with old.components.lanes rows.goings) rows.offers.now) rows.takes.now;
   }
-  pub untils : new.untils.items ≡ fold until_with old.untils.items rows.goings.now
+  pub untils : new.untils.items ≡ fold until_with old.untils.items rows.goings
   pub outside : new.outside.items
       ≡ fold (outside_with time new.untils.items) old.outside.items rows.offers.now
   pub replaced : new.replaced.items ≡ old.replaced.items
       ++ map (λ one. slice_index_or old.components.lanes (channel_number one.channel) no_lane)
-      rows.goings.now
+      rows.goings
   pub capacity : vec_capacity old.replaced ≤ vec_capacity new.replaced
 
 -- A network's next cycle brings nothing but words: it has no events, no session goes, no row of a

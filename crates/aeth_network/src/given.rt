@@ -22,7 +22,7 @@ use crate::windows::{next_window, place_behind};
 use aeth_accepted::RunInputs;
 use aeth_base::NoMemory;
 use aeth_components::Event;
-use aeth_schedule::{Going, Schedule};
+use aeth_schedule::{Goings, Schedule};
 use std::alloc::Global;
 
 // What a run gives a network: its schedule, the words that are offered, the rows of receivers, and the
@@ -53,7 +53,7 @@ pub(crate) struct Cursors {
 #[derive(Drop)]
 pub(crate) struct CycleRows<'a> {
     pub events: &'a [Event],
-    pub goings: &'a [Going],
+    pub goings: Goings<'a>,
     pub offers: &'a [Offered],
     pub takes: &'a [Taking],
     pub tables: &'a Option<UseTables>,
@@ -103,7 +103,7 @@ impl Given {
         requires order { AreInOrder (stimuli_with self.now) (routing_with self.now) }
         requires from { AreCursors from time (stimuli_with self.now) (routing_with self.now) }
         ensures events { result.events.now ≡ events_in (stimuli_with self.now) time }
-        ensures goings { result.goings.now ≡ goings_in (stimuli_with self.now) time }
+        ensures goings { result.goings ≡ goings_in (stimuli_with self.now) time }
         ensures offers { result.offers.now ≡ offers_in (stimuli_with self.now) time }
         ensures takes { result.takes.now ≡ takes_in (stimuli_with self.now) time }
         ensures tables { result.tables.now ≡ self.now.tables }
@@ -113,14 +113,15 @@ impl Given {
             (routing_with self.now) }
     {
         let event = behind(self.schedule.cycles(), from.event, time);
-        let going = behind(self.schedule.goings(), from.going, time);
+        let goings = self.schedule.goings();
+        let going = behind(goings.list(), from.going, time);
         let offer = behind(&self.offers, from.offer, time);
         let take = behind(&self.takes, from.take, time);
         let window = place_behind(self.schedule.windows(), from.window, time);
         let entering = behind_entering(&self.tables, from.entering, time);
         CycleRows {
             events: self.schedule.events(from.event, event),
-            goings: &self.schedule.goings()[from.going..going],
+            goings: goings.range(from.going, going),
             offers: &self.offers[from.offer..offer],
             takes: &self.takes[from.take..take],
             tables: &self.tables,
@@ -149,7 +150,7 @@ impl Given {
             ≤ entering }
     {
         let until = quiet_until(self.schedule.cycles(), event, u32::MAX);
-        let until = quiet_until(self.schedule.goings(), going, until);
+        let until = quiet_until(self.schedule.goings().list(), going, until);
         let until = quiet_until(&self.takes, take, until);
         unentered_until(&self.tables, entering, until)
     }

@@ -13,10 +13,10 @@ ghost use Rattle.aeth_network.specs.Fits.{AreFit, HaveCounts};
 
 use crate::rows::{Offered, Taking};
 use aeth_components::{Components, Lane};
-use aeth_schedule::{Going, number_of};
+use aeth_schedule::{Going, Goings, number_of};
 
 // Notes how the channels stand whose sessions go. There is room for each.
-pub(crate) fn note(replaced: &mut Vec<Lane>, lanes: &[Lane], goings: &[Going])
+pub(crate) fn note(replaced: &mut Vec<Lane>, lanes: &[Lane], goings: &Goings)
     requires goings { All (λ one. channel_number one.channel < length lanes.now) goings.now }
     requires few { length lanes.now ≤ 2 * max_connections }
     requires room { length replaced.old.items + length goings.now ≤ vec_capacity replaced.old }
@@ -24,13 +24,24 @@ pub(crate) fn note(replaced: &mut Vec<Lane>, lanes: &[Lane], goings: &[Going])
         (channel_number one.channel) no_lane) goings.now }
     ensures capacity { vec_capacity replaced.old ≤ vec_capacity replaced.new }
 {
-    for going in goings {
-        let _ = replaced.push(lanes[number_of(going.channel) as usize]);
+    for place in 0..goings.len() {
+        let going = goings.at(place);
+        let number = number_of(going.channel) as usize;
+        note_one(replaced, &lanes[number]);
     }
 }
 
+// Notes how a channel stands. There is room for it.
+fn note_one(replaced: &mut Vec<Lane>, lane: &Lane)
+    requires { length replaced.old.items < vec_capacity replaced.old }
+    ensures items { replaced.new.items ≡ replaced.old.items ++ lane.now ∷ [] }
+    ensures capacity { vec_capacity replaced.old ≤ vec_capacity replaced.new }
+{
+    let _ = replaced.push(*lane);
+}
+
 // Starts sessions on their channels.
-pub(crate) fn start(components: &mut Components, untils: &mut Vec<u32>, goings: &[Going])
+pub(crate) fn start(components: &mut Components, untils: &mut Vec<u32>, goings: &Goings)
     requires goings { All (λ one. channel_number one.channel < length components.old.lanes)
         goings.now }
     requires few { length components.old.lanes ≤ 2 * max_connections }
@@ -42,8 +53,9 @@ pub(crate) fn start(components: &mut Components, untils: &mut Vec<u32>, goings: 
     } }
     ensures untils { untils.new.items ≡ fold until_with untils.old.items goings.now }
 {
-    for going in goings {
-        start_one(components, untils, going);
+    for place in 0..goings.len() {
+        let going = goings.at(place);
+        start_one(components, untils, &going);
     }
 }
 

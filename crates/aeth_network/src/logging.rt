@@ -14,7 +14,7 @@ use aeth_app::App;
 use aeth_base::{Channel, ConnId, NoMemory, Side};
 use aeth_chip::Chip;
 use aeth_report::{ChannelLog, Landing, SessionLog, SimLog};
-use aeth_schedule::{Going, number_of};
+use aeth_schedule::{Going, Goings, number_of};
 use aeth_server::Due;
 use aeth_trace::Words;
 use std::alloc::Global;
@@ -25,7 +25,7 @@ pub(crate) fn first_log(
     chip: &Chip,
     app: &App,
     words: &Words,
-    goings: &[Going],
+    goings: &Goings,
     cycles: u32,
 ) -> Result<SimLog, NoMemory>
     requires words { AreOffered words.now }
@@ -38,7 +38,8 @@ pub(crate) fn first_log(
       flits = replicate (length chip.now.links) 0;
     }) }
 {
-    let mut channels = first_channels(alloc, app)?;
+    let counts = counts_of(alloc, app, goings)?;
+    let mut channels = first_channels(alloc, app, &counts)?;
     add_sessions(alloc, &mut channels, words, goings, cycles)?;
     Ok(SimLog {
         cycles,
@@ -47,28 +48,57 @@ pub(crate) fn first_log(
     })
 }
 
-// The channels of an application, without sessions.
-fn first_channels(alloc: Global, app: &App) -> Result<Vec<ChannelLog>, NoMemory>
+// How many sessions each channel has, by its number.
+fn counts_of(alloc: Global, app: &App, goings: &Goings) -> Result<Vec<u32>, NoMemory>
+    requires { All (λ one. channel_number one.channel < 2 * max_connections) goings.now }
+    ensures { IfOk result (λ counts. length counts.items ≡ 2 * length app.now.connections) }
+{
+    let mut counts = vec![in alloc; 0u32; 2 * app.connections() as usize]?;
+    for place in 0..goings.len() {
+        let number = number_of(goings.at(place).channel) as usize;
+        if number < counts.len() {
+            counts[number] = counts[number].saturating_add(1);
+        }
+    }
+    Ok(counts)
+}
+
+// The channels of an application, without sessions, and with room for so many.
+fn first_channels(
+    alloc: Global,
+    app: &App,
+    counts: &[u32],
+) -> Result<Vec<ChannelLog>, NoMemory>
+    requires { length counts.now ≡ 2 * length app.now.connections }
     ensures { IfOk result (λ channels. channels.items
         ≡ map (channel_from [] 0 []) (channels_of (length app.now.connections))) }
 {
     let mut channels = Vec::new(alloc);
     for c in 0..app.connections() {
-        channels.push(first_channel(alloc, ConnId(c), Side::Fwd))?;
-        channels.push(first_channel(alloc, ConnId(c), Side::Back))?;
+        let place = 2 * c as usize;
+        let fwd = first_channel(alloc, ConnId(c), Side::Fwd, counts[place])?;
+        let back = first_channel(alloc, ConnId(c), Side::Back, counts[place + 1])?;
+        channels.push(fwd)?;
+        channels.push(back)?;
     }
     Ok(channels)
 }
 
-// A channel without sessions.
-fn first_channel(alloc: Global, conn: ConnId, side: Side) -> ChannelLog
-    ensures { result ≡ channel_from [] 0 [] (record { conn = conn; side = side }) }
+// A channel without sessions, and with room for so many.
+fn first_channel(
+    alloc: Global,
+    conn: ConnId,
+    side: Side,
+    count: u32,
+) -> Result<ChannelLog, NoMemory>
+    ensures { IfOk result (λ channel. channel
+        ≡ channel_from [] 0 [] (record { conn = conn; side = side })) }
 {
-    ChannelLog {
+    Ok(ChannelLog {
         channel: Channel { conn, side },
-        sessions: Vec::new(alloc),
+        sessions: Vec::with_capacity(alloc, count as usize)?,
         outside: 0,
-    }
+    })
 }
 
 // Adds each session to its channel, in one walk.
@@ -76,7 +106,7 @@ fn add_sessions(
     alloc: Global,
     channels: &mut [ChannelLog],
     words: &Words,
-    goings: &[Going],
+    goings: &Goings,
     cycles: u32,
 ) -> Result<(), NoMemory>
     requires words { AreOffered words.now }
@@ -85,10 +115,11 @@ fn add_sessions(
     ensures { IfOk result (λ done. channels.new
         ≡ each_by (added_by words.now cycles goings.now) 0 channels.old) }
 {
-    for going in goings {
+    for place in 0..goings.len() {
+        let going = goings.at(place);
         let number = number_of(going.channel) as usize;
         if number < channels.len() {
-            add_session(alloc, &mut channels[number], words, going, cycles)?;
+            add_session(alloc, &mut channels[number], words, &going, cycles)?;
         }
     }
     Ok(())

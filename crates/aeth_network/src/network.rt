@@ -1,40 +1,28 @@
 // A network, cycle by cycle.
 
-ghost use Rattle.std.specs.Prelude.{◌≡◌, ◌≤◌, ◌<◌, ◌+◌, ◌-◌, ◌*◌, IfOk, length};
+ghost use Rattle.std.specs.Prelude.{◌≡◌, ◌≤◌, ◌<◌, ◌+◌, ◌-◌, ◌*◌, length};
 ghost use Rattle.aeth_report.specs.RunLog.{log_of};
 ghost use Rattle.aeth_components.specs.Turns.{flits_on};
 ghost use Rattle.aeth_accepted.specs.Inputs.{Inputs, run_of};
-ghost use Rattle.aeth_schedule.specs.Schedule.{schedule_of};
-ghost use Rattle.aeth_stimuli.specs.Stimuli.{stimuli_of};
-ghost use Rattle.aeth_running.specs.FirstLog.{first_log};
 ghost use Rattle.aeth_running.specs.Idle.{IsNextBusyOf};
 ghost use Rattle.aeth_running.specs.Lossless.{LosesNothing};
-ghost use Rattle.aeth_running.specs.Network.{first_network, played, stepped};
-ghost use Rattle.aeth_running.specs.Routing.{ByHeaders, IsRoutingFor};
+ghost use Rattle.aeth_running.specs.Network.{played, stepped};
 ghost use Rattle.aeth_running.specs.Quiet.{AreStill, IsNextBusy};
 ghost use Rattle.aeth_running.specs.Still.{IsStill};
 ghost use Rattle.aeth_running.specs.Told.{told};
 ghost use Rattle.aeth_network.specs.Brought.{BringsWords};
-ghost use Rattle.aeth_network.specs.Cursors.{routing_with, stimuli_with};
-ghost use Rattle.aeth_network.specs.First.{IsFirstState};
-ghost use Rattle.aeth_network.specs.Routes.{routing_in};
 ghost use Rattle.aeth_network.specs.Runs.{AreWiresOf, IsNetworkOf};
 
-use crate::beginning::log_before;
 use crate::given::{Cursors, Given};
 use crate::giving::{offer, take};
 use crate::next::{next_own, next_taking, place_before};
 use crate::places::behind;
 use crate::routing::enter;
 use crate::state::{State, run};
-use crate::tables::UseTables;
 use crate::telling::tell;
-use aeth_accepted::RunInputs;
-use aeth_base::{NoMemory, Steps};
+use aeth_base::Steps;
 use aeth_clocked::{Order, Wires};
 use aeth_report::SimLog;
-use aeth_schedule::Schedule;
-use std::alloc::Global;
 use std::marker::{Brand, Model};
 use std::sync::ledger::{Blank, Ledger};
 
@@ -43,11 +31,11 @@ use std::sync::ledger::{Blank, Ledger};
 /// has come to in what it is given.
 #[derive(Drop)]
 pub struct RoutedNetwork {
-    given: Given,
-    cursors: Cursors,
-    state: State,
-    log: SimLog,
-    time: u32,
+    pub(crate) given: Given,
+    pub(crate) cursors: Cursors,
+    pub(crate) state: State,
+    pub(crate) log: SimLog,
+    pub(crate) time: u32,
 }
 
 impl Model for RoutedNetwork {
@@ -70,37 +58,6 @@ impl Model for RoutedNetwork {
 }
 
 impl RoutedNetwork {
-    /// The network of accepted inputs by their schedule, whose routers read headers, with the tables of the
-    /// first use case in its interfaces, before the first of their cycles. It takes all memory of the run:
-    /// `Err` where there was none.
-    pub fn new(
-        alloc: Global,
-        inputs: &RunInputs,
-        schedule: Schedule,
-    ) -> Result<RoutedNetwork, NoMemory>
-        requires { schedule ≡ schedule_of inputs.now }
-        ensures first { IfOk result (λ network. network ≡ first_network inputs.now ByHeaders) }
-        ensures run { IfOk result (IsNetworkOf inputs.now) }
-    {
-        with_routes(alloc, inputs, schedule, None)
-    }
-
-    /// The same with routers that have these tables. In the cycle in which rows enter, all of them have
-    /// these before any component drives.
-    pub fn with_tables(
-        alloc: Global,
-        inputs: &RunInputs,
-        schedule: Schedule,
-        tables: UseTables,
-    ) -> Result<RoutedNetwork, NoMemory>
-        requires schedule { schedule ≡ schedule_of inputs.now }
-        requires routed { IsRoutingFor inputs.now tables }
-        ensures first { IfOk result (λ network. network ≡ first_network inputs.now tables) }
-        ensures run { IfOk result (IsNetworkOf inputs.now) }
-    {
-        with_routes(alloc, inputs, schedule, Some(tables))
-    }
-
     /// The number of components.
     pub fn parts(&self) -> u32
         ensures count { result ≡ length self.now.components.parts }
@@ -338,68 +295,10 @@ impl RoutedNetwork {
             &mut self.log,
             &self.state.components,
             &self.state.outside,
-            self.given.schedule.goings(),
+            &self.given.schedule.goings(),
             &self.state.replaced,
             &mut self.state.untils,
         );
         self.log
-    }
-}
-
-// The network of accepted inputs by their schedule, with these tables, or whose routers read headers.
-fn with_routes(
-    alloc: Global,
-    inputs: &RunInputs,
-    schedule: Schedule,
-    tables: Option<UseTables>,
-) -> Result<RoutedNetwork, NoMemory>
-    requires schedule { schedule ≡ schedule_of inputs.now }
-    requires routed { IsRoutingFor inputs.now (routing_in tables) }
-    ensures first { IfOk result (λ network.
-        network ≡ first_network inputs.now (routing_in tables)) }
-    ensures run { IfOk result (IsNetworkOf inputs.now) }
-{
-    inputs.are_accepted();
-    let given = Given::of(alloc, inputs, schedule, tables)?;
-    with_given(alloc, inputs, given)
-}
-
-// The network of accepted inputs that is given this.
-fn with_given(alloc: Global, inputs: &RunInputs, given: Given) -> Result<RoutedNetwork, NoMemory>
-    requires given { stimuli_with given ≡ stimuli_of inputs.now }
-    requires routed { IsRoutingFor inputs.now (routing_with given) }
-    ensures { IfOk result (λ network. network ≡ first_network inputs.now (routing_with given)) }
-{
-    // The state comes last: what owns it has no way out behind it.
-    let log = log_before(alloc, inputs, &given)?;
-    let state = State::of(alloc, inputs, &given.schedule, &given.tables)?;
-    Ok(begun(inputs, given, state, log))
-}
-
-// The network of accepted inputs that is given this, with its first state and the log before its first
-// cycle.
-fn begun(inputs: &RunInputs, given: Given, state: State, log: SimLog) -> RoutedNetwork
-    requires given { stimuli_with given ≡ stimuli_of inputs.now }
-    requires routed { IsRoutingFor inputs.now (routing_with given) }
-    requires state { IsFirstState inputs.now (routing_with given) state }
-    requires log { log ≡ first_log inputs.now }
-    ensures { result ≡ first_network inputs.now (routing_with given) }
-{
-    aeth_stimuli::laws::stimuli_are_stimuli();
-    inputs.are_accepted();
-    RoutedNetwork {
-        given,
-        cursors: Cursors {
-            event: 0,
-            going: 0,
-            offer: 0,
-            take: 0,
-            window: 0,
-            entering: 0,
-            quiet_until: 0,
-        },
-        state,
-        log,
-        time: 0,
     }
 }

@@ -43,8 +43,12 @@ pub(crate) fn next_taking(
     requires to { time ≤ to }
     ensures { IsFirst (HasAsker components.now.lanes takes.now place) time to result }
 {
-    let next = next_by_pulls(components, takes, place, time, to);
-    next_by_rows(components.lanes(), takes, place, time, next)
+    if time < to {
+        let next = next_by_pulls(components, takes, place, time, to);
+        next_by_rows(components.lanes(), takes, place, time, next)
+    } else {
+        to
+    }
 }
 
 // A cycle in which one takes, or the limit, before which none does that takes some as it stands. Where

@@ -6,7 +6,7 @@ ghost use Rattle.aeth_network.specs.Behind.{IsBehind, passed};
 
 use crate::rows::{Offered, Taking};
 use crate::tables::EnteredUse;
-use aeth_schedule::Going;
+use aeth_schedule::GoingByLine;
 
 // What is brought in a cycle.
 pub(crate) trait InCycle {
@@ -35,15 +35,15 @@ impl InCycle for u32 {
     }
 }
 
-impl InCycle for Going {
-    ghost cycle = { λ one. one.lane.go };
+impl InCycle for GoingByLine {
+    ghost cycle = { λ one. one.go };
 
     fn is_in(&self, time: u32) -> bool {
-        self.lane.go == time
+        self.go == time
     }
 
     fn cycle_up_to(&self, limit: u32) -> u32 {
-        self.lane.go.min(limit)
+        self.go.min(limit)
     }
 }
 

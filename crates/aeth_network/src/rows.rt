@@ -77,7 +77,7 @@ pub(crate) fn takes_of(
     ensures { IfOk result (λ takes. takes.items
         ≡ map take_of (filter (λ row. nat_lt row.cycle cycles) pulls.now)) }
 {
-    let mut takes = Vec::new(alloc);
+    let mut takes = Vec::with_capacity(alloc, pulls.len())?;
     for row in pulls {
         if row.cycle < cycles {
             takes.push(Taking {

@@ -79,8 +79,8 @@ impl State {
         requires { CanBring self.old rows.now time }
         ensures { IsBrought rows.now time self.old self.new }
     {
-        note(&mut self.replaced, self.components.lanes(), rows.goings);
-        start(&mut self.components, &mut self.untils, rows.goings);
+        note(&mut self.replaced, self.components.lanes(), &rows.goings);
+        start(&mut self.components, &mut self.untils, &rows.goings);
         offer(
             &mut self.components,
             &self.untils,

@@ -11,7 +11,7 @@ ghost use Rattle.aeth_network.specs.Telling.{with_next, with_told};
 
 use aeth_components::{Components, Lane};
 use aeth_report::{ChannelLog, Landing, SessionLog, SimLog};
-use aeth_schedule::{Going, number_of};
+use aeth_schedule::{Goings, number_of};
 
 // Tells the log of a network, where these channels were replaced as sessions went. What it is given
 // to count these, channel by channel, may have any values.
@@ -19,7 +19,7 @@ pub(crate) fn tell(
     log: &mut SimLog,
     components: &Components,
     outside: &[u32],
-    goings: &[Going],
+    goings: &Goings,
     replaced: &[Lane],
     gone: &mut [u32],
 )
@@ -53,7 +53,7 @@ pub(crate) fn tell(
 fn tell_followed(
     channels: &mut [ChannelLog],
     gone: &mut [u32],
-    goings: &[Going],
+    goings: &Goings,
     replaced: &[Lane],
     landings: &[u32],
     cycles: u32,
@@ -69,7 +69,7 @@ fn tell_followed(
 {
     gone.fill(0);
     for place in 0..replaced.len() {
-        let number = number_of(goings[place].channel) as usize;
+        let number = number_of(goings.at(place).channel) as usize;
         if number < channels.len() {
             let channel = &mut channels[number];
             tell_next(channel, gone[number], &replaced[place], landings, cycles);

@@ -1,3 +1,4 @@
 pub mod LineLemmas
 pub mod Places
+pub mod Ranges
 pub mod SwitchRows

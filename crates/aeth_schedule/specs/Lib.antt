@@ -1,3 +1,4 @@
+pub mod ByLine
 pub mod Goings
 pub mod Lines
 pub mod Rooms

@@ -9,8 +9,8 @@ mod schedule;
 mod timed;
 mod windows;
 
-pub use going::Going;
-pub use lines::Line;
+pub use going::{Going, GoingByLine, GoingList, Goings};
+pub use lines::{Line, Lines, end_of, lines_in};
 pub use placing::{backward, forward, number_of, values};
 pub use schedule::Schedule;
 pub use timed::{Closing, Timed};

@@ -1,4 +1,5 @@
 pub mod Entered
 pub mod Made
+pub mod Parts
 pub mod Staying
 pub mod Tasks

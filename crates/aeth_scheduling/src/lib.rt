@@ -15,4 +15,4 @@ mod task;
 mod timed;
 mod windows;
 
-pub use schedule::schedule_of;
+pub use schedule::{is_entered, schedule_of};

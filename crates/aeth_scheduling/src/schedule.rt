@@ -4,22 +4,34 @@ ghost use Rattle.std.specs.Prelude.{◌≡◌, ◌<◌, IfOk, length};
 ghost use Rattle.aeth_schedule.specs.Lines.{lines_of};
 ghost use Rattle.aeth_schedule.specs.Schedule.{schedule_of};
 ghost use Rattle.aeth_scheduling.specs.Entered.{entered_lines, is_entered, lines_if_entered};
+ghost use Rattle.aeth_scheduling.specs.Parts.{schedule_with};
 ghost use Rattle.aeth_scheduling.specs.Tasks.{IsTaskOf};
 
 use crate::durations::spans_for;
 use crate::going::goings_of;
-use crate::lines::Lines;
+use crate::lines::lines_with;
 use crate::placing::starts;
 use crate::rooms::rooms_of;
-use crate::switching::{loaded_of, timed_events};
+use crate::switching::{TimedEvents, loaded_of, timed_events};
 use crate::task::Task;
 use crate::windows::windows_of;
 use aeth_accepted::RunInputs;
 use aeth_base::{NoMemory, UseId};
-use aeth_schedule::Schedule;
+use aeth_components::Event;
+use aeth_schedule::{GoingByLine, GoingList, Lines, Schedule, Window};
 use aeth_tables::tables;
 use aeth_trace::SwitchRow;
 use std::alloc::Global;
+
+// What a schedule has beside the lines of use cases.
+#[derive(Drop)]
+pub(crate) struct Parts {
+    pub loaded: Vec<Event>,
+    pub timed: TimedEvents,
+    pub goings: Vec<GoingByLine>,
+    pub windows: Vec<Window>,
+    pub rooms: Vec<u32>,
+}
 
 /// The schedule of accepted inputs: what their run does to tables and queues, cycle by cycle, and its
 /// sessions in the order in which they go. `Err` where there was no memory.
@@ -38,13 +50,32 @@ pub fn schedule_of(alloc: Global, inputs: &RunInputs) -> Result<Schedule, NoMemo
         starts: &starts,
         cycles: inputs.cycles(),
     };
-    made(alloc, inputs, &task)
+    let parts = parts_of(alloc, inputs, &task)?;
+    Ok(made(parts, all))
 }
 
-// The schedule of accepted inputs, of which this is the task.
-fn made(alloc: Global, inputs: &RunInputs, task: &Task) -> Result<Schedule, NoMemory>
+// A schedule of these parts, with the lines among which its sessions are.
+fn made(parts: Parts, lines: Vec<Lines>) -> Schedule
+    requires { length parts.timed.events.items ≡ length parts.timed.cycles.items }
+    ensures { result ≡ schedule_with lines.items parts }
+{
+    Schedule::new(
+        parts.loaded,
+        parts.timed.events,
+        parts.timed.cycles,
+        GoingList::of(lines, parts.goings),
+        parts.windows,
+        parts.rooms,
+    )
+}
+
+// The parts of the schedule of accepted inputs, of which this is the task.
+fn parts_of(alloc: Global, inputs: &RunInputs, task: &Task) -> Result<Parts, NoMemory>
     requires { IsTaskOf inputs.now task.now }
-    ensures { IfOk result (λ schedule. schedule ≡ schedule_of inputs.now) }
+    ensures parts { IfOk result (λ parts. schedule_with task.now.all.now parts
+        ≡ schedule_of inputs.now) }
+    ensures cycles { IfOk result (λ parts. length parts.timed.events.items
+        ≡ length parts.timed.cycles.items) }
 {
     inputs.are_accepted();
     let rows = inputs.switches().rows();
@@ -53,7 +84,13 @@ fn made(alloc: Global, inputs: &RunInputs, task: &Task) -> Result<Schedule, NoMe
     let goings = goings_of(alloc, task, rows)?;
     let windows = windows_of(alloc, task, rows)?;
     let rooms = rooms_of(alloc, inputs)?;
-    Ok(Schedule::new(loaded, timed.events, timed.cycles, goings, windows, rooms))
+    Ok(Parts {
+        loaded,
+        timed,
+        goings,
+        windows,
+        rooms,
+    })
 }
 
 // The channels of all use cases that rows of switches enter. Of the others none are made.
@@ -75,12 +112,12 @@ fn lines_if_entered(alloc: Global, inputs: &RunInputs, u: UseId) -> Result<Lines
     if is_entered(inputs.switches().rows(), u) {
         lines_of_use(alloc, inputs, u)
     } else {
-        Ok(Lines::none(alloc))
+        Ok(Lines::of(Vec::new(alloc)))
     }
 }
 
-// Whether a row enters a use case.
-fn is_entered(rows: &[SwitchRow], u: UseId) -> bool
+/// Whether a row of switches enters a use case.
+pub fn is_entered(rows: &[SwitchRow], u: UseId) -> bool
     ensures { result ≡ is_entered rows.now u.0 }
 {
     rows.iter().any(|row| row.to.0 == u.0)
@@ -100,5 +137,5 @@ fn lines_of_use(alloc: Global, inputs: &RunInputs, u: UseId) -> Result<Lines, No
         inputs.plan(),
         u,
     )?;
-    Lines::of(alloc, &tables)
+    lines_with(alloc, &tables)
 }

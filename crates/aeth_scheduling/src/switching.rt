@@ -8,7 +8,6 @@ ghost use Rattle.aeth_ni.specs.Program.{program_of};
 ghost use Rattle.aeth_schedule.specs.Switching.{changes, switches_from};
 ghost use Rattle.aeth_schedule.specs.Timed.{within};
 
-use crate::lines::{Lines, lines_in};
 use crate::task::Task;
 use crate::timed::push_switching;
 use aeth_base::{NoMemory, UseId};
@@ -16,7 +15,7 @@ use aeth_components::Event;
 use aeth_group::Groups;
 use aeth_ni::{ChannelRow, Write};
 use aeth_reconf::{close_by, program};
-use aeth_schedule::{Line, Timed};
+use aeth_schedule::{Line, Lines, Timed, lines_in};
 use aeth_trace::SwitchRow;
 use std::alloc::Global;
 
@@ -52,7 +51,7 @@ pub(crate) fn timed_events(
 fn events_in(alloc: Global, timed: &[Timed]) -> Result<Vec<Event>, NoMemory>
     ensures { IfOk result (λ events. events.items ≡ map (λ one. one.event) timed.now) }
 {
-    let mut events = Vec::new(alloc);
+    let mut events = Vec::with_capacity(alloc, timed.len())?;
     for one in timed {
         events.push(one.event)?;
     }
@@ -63,7 +62,7 @@ fn events_in(alloc: Global, timed: &[Timed]) -> Result<Vec<Event>, NoMemory>
 fn cycles_in(alloc: Global, timed: &[Timed]) -> Result<Vec<u32>, NoMemory>
     ensures { IfOk result (λ cycles. cycles.items ≡ map (λ one. one.cycle) timed.now) }
 {
-    let mut cycles = Vec::new(alloc);
+    let mut cycles = Vec::with_capacity(alloc, timed.len())?;
     for one in timed {
         cycles.push(one.cycle)?;
     }
@@ -161,7 +160,7 @@ fn rows_changed(
     ensures { IfOk result (λ rows. rows.items
         ≡ changed_rows groups.now from.0 to.0 lines.now) }
 {
-    let mut rows = Vec::new(alloc);
+    let mut rows = Vec::with_capacity(alloc, lines.len())?;
     for line in lines {
         if !groups.kept(from, to, line.row.channel.conn) {
             rows.push(line.row)?;
@@ -199,7 +198,7 @@ fn loaded_by(alloc: Global, lines: &[Line]) -> Result<Vec<Event>, NoMemory>
 fn all_rows(alloc: Global, lines: &[Line]) -> Result<Vec<ChannelRow>, NoMemory>
     ensures { IfOk result (λ rows. rows.items ≡ map (λ line. line.row) lines.now) }
 {
-    let mut rows = Vec::new(alloc);
+    let mut rows = Vec::with_capacity(alloc, lines.len())?;
     for line in lines {
         rows.push(line.row)?;
     }
@@ -210,7 +209,7 @@ fn all_rows(alloc: Global, lines: &[Line]) -> Result<Vec<ChannelRow>, NoMemory>
 fn changes_of(alloc: Global, writes: &[Write]) -> Result<Vec<Event>, NoMemory>
     ensures { IfOk result (λ events. events.items ≡ changes writes.now) }
 {
-    let mut events = Vec::new(alloc);
+    let mut events = Vec::with_capacity(alloc, writes.len())?;
     for write in writes {
         events.push(Event::Change(*write))?;
     }

@@ -2,8 +2,8 @@
 
 ghost use Rattle.aeth_scheduling.specs.Made.{IsTask};
 
-use crate::lines::Lines;
 use aeth_group::Groups;
+use aeth_schedule::Lines;
 use aeth_trace::{Spans, Words};
 
 // The groups of an application, how long its switches take, the channels of the use cases that a run

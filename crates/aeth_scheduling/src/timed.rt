@@ -4,12 +4,11 @@ ghost use Rattle.std.specs.Prelude.{◌≡◌, ◌++◌, OnOk};
 ghost use Rattle.aeth_schedule.specs.Timed.{closing_at, event_by, switching_events, within};
 ghost use Rattle.aeth_schedule.specs.Timed.{writes_from};
 
-use crate::lines::end_of;
 use aeth_base::NoMemory;
 use aeth_components::{ChannelEnd, Event};
 use aeth_ni::{ChannelRow, Write};
 use aeth_reconf::Close;
-use aeth_schedule::{Closing, Timed};
+use aeth_schedule::{Closing, Timed, end_of};
 
 // Appends the events of a switch that so closes these channels and makes these writes, as far as their
 // cycles are below the end.

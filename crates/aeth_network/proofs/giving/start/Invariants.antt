@@ -3,10 +3,10 @@ use Rattle.aeth_running.specs.Network.{gone_with, until_with}
 use Rattle.aeth_network.proofs.giving.start.Given as goal
 
 -- The sessions so far have gone.
-abbrev pub invariant-loop-going : goal.invariant-loop-going
-invariant-loop-going l = record {
+abbrev pub invariant-loop-place : goal.invariant-loop-place
+invariant-loop-place l = record {
   components : l.components ≡ record l.fn.components {
-    lanes = fold gone_with l.fn.components.lanes (take l.going-index l.goings);
+    lanes = fold gone_with l.fn.components.lanes (take l.place l.goings);
   };
-  untils : l.untils.items ≡ fold until_with l.fn.untils.items (take l.going-index l.goings);
+  untils : l.untils.items ≡ fold until_with l.fn.untils.items (take l.place l.goings);
 }

@@ -1,33 +1,51 @@
-use Rattle.std.proofs.Common.{◌∙◌, arith}
+use Rattle.std.proofs.Common.{◌<◌, ◌∙◌, arith, length, subst, sym}
+use Rattle.std.proofs.lemmas.Option.{get_or_from_slice_get}
+use Rattle.aeth_network.specs.Records.{IsFresh}
 use Rattle.aeth_network.proofs.Adding.{added-more, added-none, added-past}
 use Rattle.aeth_network.proofs.logging.add_sessions.Goals.{else-number-channels}
 use Rattle.aeth_network.proofs.logging.add_sessions.Goals.{then-number-channels+in_ok-add_session}
 use Rattle.aeth_network.proofs.logging.add_sessions.Goals as goal
 
 -- None is added.
-pub loop-going-init : goal.loop-going-init
-loop-going-init c = added-none c.args.words.now c.args.cycles c.args.channels.now
+pub loop-place-init : goal.loop-place-init
+loop-place-init c = added-none c.args.words.now c.args.cycles c.args.channels.now
 
 -- One session more is added, where its channel is known.
-pub loop-going-preserved : goal.loop-going-preserved
-loop-going-preserved c =
+pub loop-place-preserved : goal.loop-place-preserved
+loop-place-preserved c =
     let words = c.args.words.now in
     let goings = c.args.goings.now in
-    let going = c.going-item.result in
-    let place = c.loop-going.going-index in
+    let going = c.at-going.result in
+    let place = c.loop-place.place in
     let number = c.number_of-number.result in
-    let size = c.loop-going.auto.channels in
+    let last = c.loop-place-test.true in
+    let end = c.loop-place.auto.place-end in
+    let count = c.len-place-end.ensures in
+    let there : place < length goings = omega arith in
+    let size = c.loop-place.auto.channels in
     elim c.if-number-channels.branch [
       | then-number-channels+in_ok-add_session w ↦
           let within = w.if-number-channels.true in
           w.channels-is
-          ∙ added-more words c.args.cycles goings going place number c.loop-going-test.true
-          c.going-item.is c.number_of-number.ensures c.args.channels.now c.loop-going.channels
+          ∙ added-more words c.args.cycles goings going place number there
+          (sym (get_or_from_slice_get goings place going going c.at-going.ensures)) c.number_of-number.ensures c.args.channels.now c.loop-place.channels
           w.index-channels-number.result w.add_session.new.channel (omega arith)
-          c.loop-going.invariant w.in_ok-add_session.ensures
+          c.loop-place.invariant w.in_ok-add_session.ensures
       | else-number-channels w ↦
           let past = w.if-number-channels.false in
-          w.channels-is ∙ c.loop-going.invariant
-          ∙ added-past words c.args.cycles goings going place number c.loop-going-test.true
-          c.going-item.is c.number_of-number.ensures c.args.channels.now (omega arith)
+          w.channels-is ∙ c.loop-place.invariant
+          ∙ added-past words c.args.cycles goings going place number there
+          (sym (get_or_from_slice_get goings place going going c.at-going.ensures)) c.number_of-number.ensures c.args.channels.now (omega arith)
     ]
+
+-- Its words are there.
+pub add_session-requires-clause-going : goal.add_session-requires-clause-going
+add_session-requires-clause-going c =
+    let goings = c.args.goings.now in
+    let going = c.at-going.result in
+    let place = c.loop-place.place in
+    let last = c.loop-place-test.true in
+    let end = c.loop-place.auto.place-end in
+    let count = c.len-place-end.ensures in
+    subst (IsFresh c.args.words.now) (get_or_from_slice_get goings place going going c.at-going.ensures)
+    (c.requires.goings place going (omega arith))

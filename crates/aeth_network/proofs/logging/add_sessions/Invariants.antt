@@ -3,6 +3,6 @@ use Rattle.aeth_network.specs.{ByNumber.each_by, Records.added_by}
 use Rattle.aeth_network.proofs.logging.add_sessions.Given as goal
 
 -- The sessions so far are added.
-abbrev pub invariant-loop-going : goal.invariant-loop-going
-invariant-loop-going l = l.channels
-    ≡ each_by (added_by l.words l.cycles (take l.going-index l.goings)) 0 l.fn.channels
+abbrev pub invariant-loop-place : goal.invariant-loop-place
+invariant-loop-place l = l.channels
+    ≡ each_by (added_by l.words l.cycles (take l.place l.goings)) 0 l.fn.channels

@@ -10,8 +10,8 @@ loop-c-preserved c =
     rw (
       c.in_ok-push-2.ensures.items,
       c.in_ok-push.ensures.items,
-      c.first_channel.ensures,
-      c.first_channel-in-loop-c.ensures,
+      c.in_ok-fwd.ensures,
+      c.in_ok-back.ensures,
       c.loop-c.invariant,
       channels_of-more c.loop-c.c,
       map-append made (channels_of c.loop-c.c) (channels_with c.loop-c.c),

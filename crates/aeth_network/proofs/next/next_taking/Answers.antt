@@ -6,8 +6,8 @@ use Rattle.aeth_network.proofs.KnownFirsts.{first-of, known-both}
 use Rattle.aeth_network.proofs.next.next_taking.Goals as goal
 
 -- A receiver that takes does as it stands, or by a row.
-pub returns : goal.returns
-returns c =
+pub returns-then-time-to : goal.returns-then-time-to
+returns-then-time-to c =
     let takes = c.args.takes.now in
     let place = c.args.place in
     first-of (known-both (asker-known c.args.components.now.lanes takes c.requires.order place)

@@ -1,4 +1,7 @@
-use Rattle.std.proofs.Common.{◌∙◌, arith}
+use Rattle.std.proofs.Common.{◌∙◌, ap, arith, sym}
+use Rattle.std.proofs.lemmas.Option.{get_or_from_slice_get}
+use Rattle.aeth_trace.specs.Channels.{channel_number}
+use Rattle.aeth_schedule.specs.declared.going.Going.{Going}
 use Rattle.aeth_network.proofs.ByNumberLemmas.{replicate-each}
 use Rattle.aeth_network.proofs.Followed.{channel-more, channels-whole, count-few, count-more}
 use Rattle.aeth_network.proofs.Followed.{counts-whole, channels-past, counts-past, followed-none}
@@ -22,8 +25,10 @@ overflow_add-gone c =
     let within = c.if-number-channels.true in
     let counted = c.requires.gone in
     let size = c.loop-place.auto.channels in
-    let few = count-few c.args.goings.now c.args.replaced.now c.index-goings-place.result
-    c.loop-place.place c.number_of-number.result (omega arith) there c.number_of-number.ensures
+    let is = c.number_of-number.ensures ∙ ap (λ (g : Going). channel_number g.channel)
+    (sym (get_or_from_slice_get c.args.goings.now c.loop-place.place c.at.result c.at.result c.at.ensures)) in
+    let few = count-few c.args.goings.now c.args.replaced.now c.at.result
+    c.loop-place.place c.number_of-number.result (omega arith) there is
     c.args.gone.now c.loop-place.gone (omega arith) c.loop-place.invariant.gone in
     omega arith
 
@@ -32,8 +37,10 @@ pub loop-place-preserved : goal.loop-place-preserved
 loop-place-preserved c =
     let goings = c.args.goings.now in
     let replaced = c.args.replaced.now in
-    let one = c.index-goings-place.result in
+    let one = c.at.result in
     let place = c.loop-place.place in
+    let is = c.number_of-number.ensures ∙ ap (λ (g : Going). channel_number g.channel)
+    (sym (get_or_from_slice_get goings place one one c.at.ensures)) in
     let number = c.number_of-number.result in
     let there = c.loop-place-test.true in
     let enough = c.requires.replaced in
@@ -45,13 +52,13 @@ loop-place-preserved c =
           record {
             channels = w.channels-is
                 ∙ channel-more goings replaced one place number (omega arith) there
-                c.number_of-number.ensures c.args.cycles c.args.landings.now c.args.gone.now
+                is c.args.cycles c.args.landings.now c.args.gone.now
                 c.loop-place.gone c.args.channels.now c.loop-place.channels
                 w.index-channels-number.result w.tell_next.new.channel (omega arith) (omega arith)
                 c.loop-place.invariant.gone c.loop-place.invariant.channels w.tell_next.ensures;
             gone = w.gone-is
                 ∙ count-more goings replaced one place number (omega arith) there
-                c.number_of-number.ensures c.args.gone.now c.loop-place.gone (omega arith)
+                is c.args.gone.now c.loop-place.gone (omega arith)
                 c.loop-place.invariant.gone;
           }
       | else-number-channels w ↦
@@ -59,11 +66,11 @@ loop-place-preserved c =
           record {
             channels = w.channels-is ∙ c.loop-place.invariant.channels
                 ∙ channels-past goings replaced one place number (omega arith) there
-                c.number_of-number.ensures c.args.cycles c.args.landings.now c.args.channels.now
+                is c.args.cycles c.args.landings.now c.args.channels.now
                 (omega arith);
             gone = w.gone-is ∙ c.loop-place.invariant.gone
                 ∙ counts-past goings replaced one place number (omega arith) there
-                c.number_of-number.ensures c.args.gone.now (omega arith);
+                is c.args.gone.now (omega arith);
           }
     ]
 

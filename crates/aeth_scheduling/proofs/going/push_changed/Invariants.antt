@@ -1,11 +1,12 @@
 use Rattle.std.proofs.Common.{◌≡◌, ◌++◌, map, take}
-use Rattle.aeth_schedule.specs.{Goings.going_in, Lines.changed_lines}
+use Rattle.aeth_schedule.specs.{ByLine.goings_at, Goings.going_in, Lines.changed_lines}
 use Rattle.aeth_scheduling.proofs.going.push_changed.Given as goal
 
 -- The sessions so far.
-abbrev pub invariant-loop-line : goal.invariant-loop-line
-invariant-loop-line l = l.list.items ≡ l.fn.list.items ++ map
+abbrev pub invariant-loop-place : goal.invariant-loop-place
+invariant-loop-place l = goings_at l.task.all.now l.list.items
+    ≡ goings_at l.task.all.now l.fn.list.items ++ map
     (going_in l.task.groups.now l.task.spans.now l.task.words.now l.task.cycles l.go
     l.entering.row.now.to.0 l.entering.later.now)
     (changed_lines l.task.groups.now l.from.0 l.entering.row.now.to.0
-    (take l.line-index l.lines))
+    (take l.place l.lines))

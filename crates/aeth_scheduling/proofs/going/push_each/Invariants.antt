@@ -1,9 +1,10 @@
 use Rattle.std.proofs.Common.{◌≡◌, ◌++◌, map, take}
-use Rattle.aeth_schedule.specs.Goings.{going_in}
+use Rattle.aeth_schedule.specs.{ByLine.goings_at, Goings.going_in}
 use Rattle.aeth_scheduling.proofs.going.push_each.Given as goal
 
 -- The sessions so far.
-abbrev pub invariant-loop-line : goal.invariant-loop-line
-invariant-loop-line l = l.list.items ≡ l.fn.list.items ++ map
+abbrev pub invariant-loop-place : goal.invariant-loop-place
+invariant-loop-place l = goings_at l.task.all.now l.list.items
+    ≡ goings_at l.task.all.now l.fn.list.items ++ map
     (going_in l.task.groups.now l.task.spans.now l.task.words.now l.task.cycles l.go
-    l.entering.row.now.to.0 l.entering.later.now) (take l.line-index l.lines)
+    l.entering.row.now.to.0 l.entering.later.now) (take l.place l.lines)

@@ -1,5 +1,5 @@
 use Rattle.std.proofs.Common.{arith, refl, None, append-nil}
-use Rattle.aeth_schedule.specs.{Goings.going_by, Lines.lines_at}
+use Rattle.aeth_schedule.specs.{ByLine.goings_at, Goings.going_by, Lines.lines_at}
 use Rattle.aeth_scheduling.proofs.GoingLemmas.{going-early, going-late}
 use Rattle.aeth_scheduling.proofs.going.push_first.Goals as goal
 
@@ -13,7 +13,7 @@ returns-then-task-eq0 c =
       going-late (going_by task.groups.now task.spans.now task.all.now
           task.words.now task.cycles None to later) task.cycles 0
           (lines_at task.all.now to) (λ line. refl) (omega arith),
-      append-nil c.args.list.now.items,
+      append-nil (goings_at task.all.now c.args.list.now.items),
     ) refl
 
 -- All go in the first.

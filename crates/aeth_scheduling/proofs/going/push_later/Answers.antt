@@ -1,5 +1,6 @@
 use Rattle.std.proofs.Common.{◌∷◌, ◌∙◌, arith, length, suc}
 use Rattle.aeth_trace.specs.declared.switches.SwitchRow.{SwitchRow}
+use Rattle.aeth_schedule.specs.ByLine.{goings_at}
 use Rattle.aeth_scheduling.proofs.EnteringLemmas.{entered-from, list-from}
 use Rattle.aeth_scheduling.proofs.GoingLemmas.{goings-next}
 use Rattle.aeth_scheduling.proofs.going.push_later.Goals as goal
@@ -24,6 +25,7 @@ loop-place-preserved c =
     record {
       from = c.requires.rows_are.known (suc place) default (omega (arith, c.loop-place-test.true));
       goings = goings-next task.groups.now task.spans.now task.all.now task.words.now task.cycles
-          c.loop-place.from.0 place later default c.loop-place.list.items _ c.loop-place-test.true
+          c.loop-place.from.0 place later default
+          (goings_at task.all.now c.loop-place.list.items) _ c.loop-place-test.true
           c.in_ok-push_opened.ensures ∙ c.loop-place.invariant.goings;
     }

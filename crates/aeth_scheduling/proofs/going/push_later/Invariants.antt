@@ -1,15 +1,15 @@
 use Rattle.std.proofs.Common.{◌≡◌, ◌<◌, ◌++◌, drop, length}
-use Rattle.aeth_schedule.specs.Goings.{going_within, goings_behind}
+use Rattle.aeth_schedule.specs.{ByLine.goings_at, Goings.going_within, Goings.goings_behind}
 use Rattle.aeth_scheduling.proofs.going.push_later.Given as goal
 
 -- The sessions of the switches that are left are still to be appended.
 abbrev pub invariant-loop-place : goal.invariant-loop-place
 invariant-loop-place l = record {
   from : l.from.0 < length l.task.groups.now.uses;
-  goings : l.list.items ++ going_within l.task.cycles (goings_behind l.task.groups.now
+  goings : goings_at l.task.all.now l.list.items ++ going_within l.task.cycles (goings_behind l.task.groups.now
       l.task.spans.now l.task.all.now l.task.words.now l.task.cycles l.from.0
       (drop l.place l.first.later.now))
-      ≡ l.fn.list.items ++ going_within l.task.cycles (goings_behind l.task.groups.now
+      ≡ goings_at l.task.all.now l.fn.list.items ++ going_within l.task.cycles (goings_behind l.task.groups.now
       l.task.spans.now l.task.all.now l.task.words.now l.task.cycles l.first.row.now.to.0
       l.first.later.now);
 }

@@ -1,6 +1,6 @@
 use Rattle.std.proofs.Common.{arith, refl, Some, append-nil}
 use Rattle.aeth_report.specs.Sessions.{go_by}
-use Rattle.aeth_schedule.specs.{Goings.going_by, Lines.changed_lines, Lines.lines_at}
+use Rattle.aeth_schedule.specs.{ByLine.goings_at, Goings.going_by, Lines.changed_lines, Lines.lines_at}
 use Rattle.aeth_scheduling.proofs.GoingLemmas.{going-early, going-late}
 use Rattle.aeth_scheduling.proofs.going.push_opened.Goals as goal
 
@@ -18,7 +18,7 @@ returns-then-go-from c =
           later) task.cycles go
           (changed_lines task.groups.now c.args.from.0 row.to.0 (lines_at task.all.now row.to.0))
           (λ line. refl) (omega arith),
-      append-nil c.args.list.now.items,
+      append-nil (goings_at task.all.now c.args.list.now.items),
     ) refl
 
 -- All go within the run.

@@ -15,8 +15,8 @@ invariant_of-task c =
     }
 
 -- So the task is theirs.
-pub made-requires : goal.made-requires
-made-requires c = record {
+pub parts_of-requires : goal.parts_of-requires
+parts_of-requires c = record {
   groups = c.groups.ensures;
   spans = c.in_ok-spans.ensures;
   lines = c.deref.ensures.value ∙ c.in_ok-all.ensures;

@@ -4,7 +4,7 @@ use Rattle.aeth_router.specs.declared.router_row.RouterRow.{RouterRow}
 use Rattle.aeth_accepted.specs.Inputs.{run_of}
 use Rattle.aeth_running.specs.Routing.{Routing}
 use Rattle.aeth_network.specs.Routes.{routing_by, rows_in}
-use Rattle.aeth_table_network.specs.Tables.{rows_of_use, tables_of}
+use Rattle.aeth_table_network.specs.Tables.{rows_if_entered, tables_of}
 use Rattle.aeth_table_network.proofs.Tables.{tables-listed}
 use Rattle.aeth_table_network.proofs.rows.tables_of.Goals as goal
 
@@ -13,7 +13,7 @@ pub of-requires-clause-tables : goal.of-requires-clause-tables
 of-requires-clause-tables c =
     let inputs = c.args.inputs.now in
     ap length c.in_ok-all.ensures
-    ∙ length-map-range_with_len (rows_of_use inputs) 0 (length inputs.app.uses)
+    ∙ length-map-range_with_len (rows_if_entered inputs) 0 (length inputs.app.uses)
 
 -- They are taken from the list.
 pub returns : goal.returns

@@ -1,8 +1,17 @@
-use Rattle.std.proofs.Common.{ℕ, arith}
-use Rattle.aeth_schedule.specs.declared.going.Going.{Going}
+use Rattle.std.proofs.Common.{◌∙◌, ℕ, ap, arith, map, refl}
+use Rattle.aeth_schedule.specs.declared.going.{Going.Going, GoingByLine.GoingByLine}
 use Rattle.aeth_stimuli.specs.Stimuli.{Take}
+use Rattle.aeth_network.proofs.MappedRows.{passed-keyed, rises-keyed}
 use Rattle.aeth_network.proofs.QuietPlaces.{quiet-sooner}
 use Rattle.aeth_network.proofs.given.Given.quiet_until.Goals as goal
+
+-- Sessions go in the cycles of their list.
+pub quiet_until-until-requires-2 : goal.quiet_until-until-requires-2
+quiet_until-until-requires-2 c =
+    rises-keyed (λ (one : GoingByLine). one.go) (λ (one : Going). one.lane.go) c.list.result.now
+    c.args.self.now.schedule.goings
+    (c.list.ensures ∙ ap (map (λ (one : Going). one.lane.go)) c.goings.ensures)
+    c.requires.goings
 
 -- The cycle is not behind that of any of the four.
 pub returns-clause-events : goal.returns-clause-events
@@ -17,8 +26,14 @@ pub returns-clause-goings : goal.returns-clause-goings
 returns-clause-goings c =
     let takes = c.quiet_until-until-3.ensures.most in
     let enters = c.unentered_until.ensures.most in
-    quiet-sooner (λ (one : Going). one.lane.go) _ _ _ c.goings.result.now _ c.goings.ensures
-    (omega arith) c.quiet_until-until-2.ensures.quiet
+    let go = λ (one : GoingByLine). one.go in
+    let early = quiet-sooner go c.quiet_until-until-2.result c.unentered_until.result
+    c.args.going c.list.result.now c.list.result.now refl (omega arith)
+    c.quiet_until-until-2.ensures.quiet in
+    let same = passed-keyed go (λ (one : Going). one.lane.go) c.unentered_until.result
+    c.list.result.now c.args.self.now.schedule.goings (c.list.ensures
+    ∙ ap (map (λ (one : Going). one.lane.go)) c.goings.ensures) in
+    omega (arith, early, same)
 
 pub returns-clause-takes : goal.returns-clause-takes
 returns-clause-takes c =

@@ -13,22 +13,22 @@ pub offer-requires-clause-offers : goal.offer-requires-clause-offers
 offer-requires-clause-offers c =
     let rows = c.args.rows.now in
     subst (λ n. All (λ (one : Offer). one.number < n) rows.offers.now)
-    (sym (lanes-gone c.start.new.components c.args.self.now.components rows.goings.now
+    (sym (lanes-gone c.start.new.components c.args.self.now.components rows.goings
     c.start.ensures.components)) c.requires.offers
 
 pub offer-requires-clause-untils : goal.offer-requires-clause-untils
 offer-requires-clause-untils c =
     let rows = c.args.rows.now in
     ap length (c.deref.ensures.value ∙ c.start.ensures.untils)
-    ∙ length-untils rows.goings.now c.args.self.now.untils.items ∙ c.requires.untils
-    ∙ sym (lanes-gone c.start.new.components c.args.self.now.components rows.goings.now
+    ∙ length-untils rows.goings c.args.self.now.untils.items ∙ c.requires.untils
+    ∙ sym (lanes-gone c.start.new.components c.args.self.now.components rows.goings
     c.start.ensures.components)
 
 pub offer-requires-clause-outside : goal.offer-requires-clause-outside
 offer-requires-clause-outside c =
     let rows = c.args.rows.now in
     c.requires.outside
-    ∙ sym (lanes-gone c.start.new.components c.args.self.now.components rows.goings.now
+    ∙ sym (lanes-gone c.start.new.components c.args.self.now.components rows.goings
     c.start.ensures.components)
 
 -- The rows of receivers are for channels that there are.
@@ -38,7 +38,7 @@ take-requires c =
     subst (λ n. All (λ (one : Take). one.number < n) rows.takes.now)
     (sym (lanes-accepted c.offer.new.components c.start.new.components c.args.time
     c.deref.result.now rows.offers.now c.offer.ensures.components
-    ∙ lanes-gone c.start.new.components c.args.self.now.components rows.goings.now
+    ∙ lanes-gone c.start.new.components c.args.self.now.components rows.goings
     c.start.ensures.components)) c.requires.takes
 
 -- All has come.
@@ -59,7 +59,7 @@ returns c =
           rows.offers.now) c.deref.ensures.value;
       replaced = c.note.ensures.items
           ∙ ap (λ (lanes : List Lane). old.replaced.items ++ map (λ (one : Going).
-          slice_index_or lanes (channel_number one.channel) no_lane) rows.goings.now)
+          slice_index_or lanes (channel_number one.channel) no_lane) rows.goings)
           c.lanes.ensures;
       capacity = c.note.ensures.capacity;
     }

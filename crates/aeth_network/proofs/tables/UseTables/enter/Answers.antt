@@ -4,7 +4,7 @@ use Rattle.aeth_base.proofs.Members.{All-from_map}
 use Rattle.aeth_router.specs.declared.{part.Part.Part, router_row.RouterRow.RouterRow}
 use Rattle.aeth_components.specs.Entering.{TakesRows}
 use Rattle.aeth_running.specs.Routing.{Entering, Routing, entered_with, later_rows}
-use Rattle.aeth_network.proofs.MappedRows.{range-map}
+use Rattle.aeth_schedule.proofs.Ranges.{range-map}
 use Rattle.aeth_network.specs.Routes.{entered_use, entering_of, rows_in}
 use Rattle.aeth_network.specs.declared.tables.EnteredUse.{EnteredUse}
 use Rattle.aeth_network.proofs.tables.UseTables.enter.Goals as goal

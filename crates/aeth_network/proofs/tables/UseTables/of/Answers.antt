@@ -1,7 +1,7 @@
 use Rattle.std.proofs.Common.{◌<◌, ◌∙◌, All, List, ap, length, refl, subst, sym}
 use Rattle.aeth_trace.specs.declared.switches.SwitchRow.{SwitchRow}
 use Rattle.aeth_accepted.specs.Inputs.{run_of}
-use Rattle.aeth_network.proofs.Enterings.{first-known, later-known, uses-scheduled}
+use Rattle.aeth_network.proofs.Enterings.{first-all, later-all, uses-scheduled}
 use Rattle.aeth_network.specs.{Routes.first_use, declared.tables.EnteredUse.EnteredUse}
 use Rattle.aeth_network.proofs.tables.UseTables.of.Goals as goal
 
@@ -18,9 +18,9 @@ invariant_of-result c =
     subst (λ count. All (λ (row : SwitchRow). row.to.0 < count) inputs.switches)
     (sym c.requires.tables) accepted.switches.known in (
       subst (λ u. u < n) (sym (c.first_use.ensures ∙ ap first_use rows_are))
-          (first-known n inputs.switches accepted.switches.first known),
+          (first-all (λ u. u < n) inputs.switches accepted.switches.first known),
       subst (λ (uses : List EnteredUse). All (λ one. one.entered.0 < n) uses) (sym uses_are)
-          (later-known (run_of inputs).spans n inputs.switches known),
+          (later-all (run_of inputs).spans (λ u. u < n) inputs.switches known),
     )
 
 -- The tables are those of the switches.

@@ -2,7 +2,7 @@ use Rattle.std.proofs.{Common.◌≡◌, Common.◌∙◌, Common.ap, lemmas.Res
 use Rattle.aeth_running.specs.Network.{NetworkState, first_network}
 use Rattle.aeth_network.specs.{Cursors.routing_with, Routes.routing_in, Runs.IsNetworkOf}
 use Rattle.aeth_network.proofs.Playing.{first-of}
-use Rattle.aeth_network.proofs.network.with_routes.Goals as goal
+use Rattle.aeth_network.proofs.beginning.with_routes.Goals as goal
 
 -- It is the network of its inputs, before their first cycle.
 pub returns-clause-first : goal.returns-clause-first

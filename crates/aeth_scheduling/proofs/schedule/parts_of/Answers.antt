@@ -7,7 +7,7 @@ use Rattle.aeth_scheduling.specs.Entered.{entered_lines}
 use Rattle.aeth_scheduling.proofs.ScheduleLemmas.{entered-are, entered-same, goings-by}
 use Rattle.aeth_scheduling.proofs.ScheduleLemmas.{goings-lines, loaded-lines, loaded-same, rows-are}
 use Rattle.aeth_scheduling.proofs.ScheduleLemmas.{timed-by, timed-lines, timed-same, windows-by}
-use Rattle.aeth_scheduling.proofs.schedule.made.Goals as goal
+use Rattle.aeth_scheduling.proofs.schedule.parts_of.Goals as goal
 
 -- Each switch enters a use case that has its channels.
 pub loaded_of-requires : goal.loaded_of-requires
@@ -36,9 +36,9 @@ goings_of-requires c =
     (rows-are inputs c.are_accepted.ensures)
 
 -- The parts are those of the schedule.
-pub returns : goal.returns
+pub returns-clause-parts : goal.returns-clause-parts
 unfolding goings_of
-returns c =
+returns-clause-parts c =
     let inputs = c.args.inputs.now in
     let accepted = c.are_accepted.ensures in
     let groups = groups_of inputs.app in
@@ -48,7 +48,6 @@ returns c =
     let same = entered-same inputs accepted in
     let spans = (run_of inputs).spans in
     rw (
-      c.new.ensures,
       c.in_ok-loaded.ensures,
       c.in_ok-timed.ensures.events,
       c.in_ok-timed.ensures.cycles,

@@ -4,7 +4,7 @@ use Rattle.aeth_network.specs.Cursors.{routing_with, stimuli_with}
 use Rattle.aeth_network.specs.Networks.{IsNetwork, network_of}
 use Rattle.aeth_network.proofs.FirstNetwork.{AreCursors-first, IsNetwork-first, first-from}
 use Rattle.aeth_network.proofs.Playing.{first-of}
-use Rattle.aeth_network.proofs.network.begun.Goals as goal
+use Rattle.aeth_network.proofs.beginning.begun.Goals as goal
 
 -- The network is the first.
 pub returns : goal.returns
