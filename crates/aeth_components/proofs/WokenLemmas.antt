@@ -2,7 +2,7 @@
 use Rattle.std.proofs.Common.{ℕ, ◌≡◌, ◌<◌, ◌%◌, ◌∙◌, refl, sym, ap, arith, inl, inr, List, []}
 use Rattle.std.proofs.Common.{false, length, map, Option, Some, None, slice_get, true, get_or}
 use Rattle.std.proofs.Common.{is_some, set, ◌⊎◌, option_map, get_or-set_other}
-use Rattle.std.proofs.lemmas.{Bool.cases_eq, List.length-map, Option.same_Some}
+use Rattle.std.proofs.lemmas.{Bool.cases_eq, Bool.cases_Bool, List.length-map, Option.same_Some}
 use Rattle.std.proofs.lemmas.{Option.slice_get-get_or, Option.slice_get_within}
 use Rattle.std.specs.List.{slice_index_or}
 use Rattle.aeth_base.proofs.Lists.{map-at, slice_get-slice_set_other, slice_get-slice_set_same}
@@ -20,9 +20,10 @@ use Rattle.aeth_components.specs.{declared.lane.ChannelEnd.ChannelEnd, Changes.a
 use Rattle.aeth_components.specs.{Changes.on_interface, Changes.with_part, Injecting.AreInjecting}
 use Rattle.aeth_components.specs.{Injecting.WakesQueue, Injecting.WakesTold, Injecting.entries_of}
 use Rattle.aeth_components.specs.{Injecting.may_send, Injecting.place_of_entry}
-use Rattle.aeth_components.specs.{Injecting.queue_told, SlotMarks.MarksLess, SlotMarks.MarksMore}
-use Rattle.aeth_components.specs.{SlotMarks.marks_at, Seen.landed, Switching.entry_in}
-use Rattle.aeth_components.specs.{Switching.entry_of, Turns.sends_own, View.queue_in, View.queue_of}
+use Rattle.aeth_components.specs.{Injecting.queue_told, Injecting.IsTold, SlotMarks.MarksLess}
+use Rattle.aeth_components.specs.{SlotMarks.MarksMore, SlotMarks.marks_at, Seen.landed}
+use Rattle.aeth_components.specs.{Switching.entry_in, Switching.entry_of, Turns.sends_own}
+use Rattle.aeth_components.specs.{View.queue_in, View.queue_of}
 use Rattle.aeth_components.proofs.AloneLemmas.{queue_of-at_end_other, slice_get-with_part_other}
 use Rattle.aeth_components.proofs.AloneLemmas.{slice_get-with_part_same}
 use Rattle.aeth_components.proofs.InjectingLemmas.{HasPlaces-moved, entry-below, entry-noted}
@@ -78,33 +79,54 @@ AreInjecting-kept parts now injecting are same kept = record {
       ∙ entry_at-parts now other slot ∙ is) (kept other queue may);
 }
 
--- One queue has changed, and is woken.
+-- One queue has changed, and is woken where it has something to send.
 pub AreInjecting-woken : (number queue : ℕ) (parts now : List Part) (old new : Injecting)
-    → AreInjecting parts old → WakesQueue number queue old new → number < length parts
+    → AreInjecting parts old → (may_send now number queue ≡ true → WakesQueue number queue old new)
+    → (may_send now number queue ≡ false → new ≡ old) → number < length parts
     → map entries_of now ≡ map entries_of parts
     → ((other at : ℕ) → ((other ≡ number) × (at ≡ queue) → ⊥) → queue_of now other at ≡ queue_of parts other at)
     → AreInjecting now new
-AreInjecting-woken number queue parts now old new are wakes within same kept =
-    AreInjecting-more number parts now old new are wakes.more wakes.entries within same
-    (λ other slot at is may.
-    let was = λ (apart : (other ≡ number) × (at ≡ queue) → ⊥).
-    ap (λ (state : QueueState). is_some (emitted state)) (sym (kept other at apart)) ∙ may in
-    elim (cases_eq other number) [
-      | inr apart ↦ inl (was (λ both. apart both.0))
-      | inl there ↦ elim (cases_eq at queue) [
-        | inr apart ↦ inl (was (λ both. apart both.1))
-        | inl here ↦
-            inr (rw there (wakes.own slot (entry-below parts old are.tables other slot at is)
-            (rw (there, here) at (entry-noted parts old are.tables other slot at is))))
-      ]
-    ])
+AreInjecting-woken number queue parts now old new are wakes none within same kept =
+    let was : (other at : ℕ) → may_send now other at ≡ true → ((other ≡ number) × (at ≡ queue) → ⊥)
+    → may_send parts other at ≡ true =
+    λ other at may apart. ap (λ (state : QueueState). is_some (emitted state)) (sym (kept other at apart)) ∙ may in
+    elim (cases_Bool (may_send now number queue)) [
+      | inr mute ↦
+          rw (none mute) (AreInjecting-kept parts now old are same (λ other at may. elim (cases_eq other number) [
+            | inr apart ↦ was other at may (λ both. apart both.0)
+            | inl there ↦ elim (cases_eq at queue) [
+              | inr apart ↦ was other at may (λ both. apart both.1)
+              | inl here ↦ absurd (cc (sym mute ∙ ap (λ n. may_send now n queue) (sym there)
+                  ∙ ap (may_send now other) (sym here) ∙ may))
+            ]
+          ]))
+      | inl sends ↦
+          let woken = wakes sends in
+          AreInjecting-more number parts now old new are woken.more woken.entries within same
+          (λ other slot at is may. elim (cases_eq other number) [
+            | inr apart ↦ inl (was other at may (λ both. apart both.0))
+            | inl there ↦ elim (cases_eq at queue) [
+              | inr apart ↦ inl (was other at may (λ both. apart both.1))
+              | inl here ↦
+                  inr (rw there (woken.own slot (entry-below parts old are.tables other slot at is)
+                  (rw (there, here) at (entry-noted parts old are.tables other slot at is))))
+            ]
+          ])
+    ]
 
 -- So where words come to it or are taken.
 pub AreInjecting-turned : (parts : List Part) (end : ChannelEnd) (change : QueueState → QueueState)
-    (old new : Injecting) → AreInjecting parts old → WakesQueue end.ni.0 end.queue old new
-    → end.ni.0 < length parts → AreInjecting (at_end end change parts) new
-AreInjecting-turned parts end change old new are wakes within =
-    AreInjecting-woken end.ni.0 end.queue parts (at_end end change parts) old new are wakes within
+    (part : Part) (old new : Injecting) → AreInjecting parts old
+    → (is_some (emitted (queue_in end.queue (Some part))) ≡ true → WakesQueue end.ni.0 end.queue old new)
+    → (is_some (emitted (queue_in end.queue (Some part))) ≡ false → new ≡ old)
+    → slice_get (at_end end change parts) end.ni.0 ≡ Some part → end.ni.0 < length parts
+    → AreInjecting (at_end end change parts) new
+AreInjecting-turned parts end change part old new are wakes none at within =
+    let same : may_send (at_end end change parts) end.ni.0 end.queue
+    ≡ is_some (emitted (queue_in end.queue (Some part))) =
+    ap (λ (found : Option Part). is_some (emitted (queue_in end.queue found))) at in
+    AreInjecting-woken end.ni.0 end.queue parts (at_end end change parts) old new are
+    (λ may. wakes (sym same ∙ may)) (λ mute. none (sym same ∙ mute)) within
     (views-with_part entries_of end.ni.0 _ (entries-changed end.queue change) parts)
     (queue_of-at_end_other parts end change)
 
@@ -149,29 +171,66 @@ module _ (parts : List Part) (number : ℕ) (flit : Flit) (part : Part)
         ∙ ap (queue_in queue) (sym there) ∙ ap (λ n. queue_of parts n queue) (sym same)
   ]
 
-  landed-told : (told : Option ℕ) (old new : Injecting) → told ≡ queue_told flit part
+  -- A queue that may send could before, or is told.
+  landed-may : (told found : Option ℕ) → queue_told flit part ≡ found
+      → IsTold flit part (on_interface (landed (Some flit)) part) told → (other queue : ℕ)
+      → may_send (with_part number (on_interface (landed (Some flit))) parts) other queue ≡ true
+      → (may_send parts other queue ≡ true) ⊎ ((other ≡ number) × (told ≡ Some queue))
+  landed-may told None is tells other queue may =
+      inl (ap (λ (state : QueueState). is_some (emitted state))
+      (sym (queue_of-landed other queue (λ both. cc (sym is ∙ both.1)))) ∙ may)
+  landed-may told (Some own) is tells other queue may =
+      let now = with_part number (on_interface (landed (Some flit))) parts in
+      let was : ((other ≡ number) × (queue_told flit part ≡ Some queue) → ⊥) → may_send parts other queue ≡ true =
+      λ apart. ap (λ (state : QueueState). is_some (emitted state)) (sym (queue_of-landed other queue apart)) ∙ may in
+      elim (cases_eq other number) [
+        | inr away ↦ inl (was (λ both. away both.0))
+        | inl same ↦ elim (cases_eq queue own) [
+          | inr apart ↦ inl (was (λ both. apart (same_Some queue own (sym both.1 ∙ is))))
+          | inl here ↦ inr (
+            same,
+            tells queue (is ∙ ap (λ n. Some n) (sym here))
+                (ap (λ (found : Option Part). is_some (emitted (queue_in queue found)))
+                (sym (slice_get-with_part_same parts number (on_interface (landed (Some flit))) part there))
+                ∙ ap (λ n. may_send now n queue) (sym same) ∙ may),
+          )
+        ]
+      ]
+
+  landed-told : (told : Option ℕ) (old new : Injecting)
+      → IsTold flit part (on_interface (landed (Some flit)) part) told
       → AreInjecting parts old → WakesTold number told old new → number < length parts
       → AreInjecting (with_part number (on_interface (landed (Some flit))) parts) new
-  landed-told None old new is are wakes within =
+  landed-told None old new tells are wakes within =
       rw wakes (AreInjecting-kept parts (with_part number (on_interface (landed (Some flit))) parts) old are
       (views-with_part entries_of number _ (entries-landed flit) parts)
-      (λ other queue may. ap (λ (state : QueueState). is_some (emitted state))
-      (sym (queue_of-landed other queue (λ both. cc (is ∙ both.1)))) ∙ may))
-  landed-told (Some told) old new is are wakes within =
-      AreInjecting-woken number told parts (with_part number (on_interface (landed (Some flit))) parts) old new
-      are wakes within (views-with_part entries_of number _ (entries-landed flit) parts)
-      (λ other queue apart. queue_of-landed other queue
-      (λ both. apart (both.0, sym (same_Some told queue (is ∙ both.1)))))
+      (λ other queue may. elim (landed-may None (queue_told flit part) refl tells other queue may) [
+        | inl was ↦ was
+        | inr own ↦ absurd (cc own.1)
+      ]))
+  landed-told (Some told) old new tells are wakes within =
+      AreInjecting-more number parts (with_part number (on_interface (landed (Some flit))) parts) old new are
+      wakes.more wakes.entries within (views-with_part entries_of number _ (entries-landed flit) parts)
+      (λ other slot queue is may. elim (landed-may (Some told) (queue_told flit part) refl tells other queue may) [
+        | inl was ↦ inl was
+        | inr own ↦
+            let there = own.0 in
+            let here : queue ≡ told = sym (same_Some told queue own.1) in
+            inr (rw there (wakes.own slot (entry-below parts old are.tables other slot queue is)
+            (rw (there, here) at (entry-noted parts old are.tables other slot queue is))))
+      ])
 
 pub AreInjecting-latched : (parts : List Part) (number : ℕ) (flit : Flit) (default latched : Part)
     (told : Option ℕ) (old new : Injecting) → number < length parts
     → latched ≡ on_interface (landed (Some flit)) (get_or parts number default)
-    → told ≡ queue_told flit (get_or parts number default)
+    → IsTold flit (get_or parts number default) latched told
     → AreInjecting parts old → WakesTold number told old new → AreInjecting (set parts number latched) new
 AreInjecting-latched parts number flit default latched told old new within is tells are wakes =
     rw (is, set-with_part parts number (on_interface (landed (Some flit))) default within)
     (landed-told parts number flit (get_or parts number default) (slice_get-get_or parts number default within)
-    told old new tells are wakes within)
+    told old new
+    (λ queue own may. tells queue own
+    (ap (λ (part : Part). is_some (emitted (queue_in queue (Some part)))) is ∙ may)) are wakes within)
 
 -- The entry of a component is that of its table.
 table_at-entry : (part : Part) (slot : ℕ)

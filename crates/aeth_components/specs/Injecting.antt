@@ -7,7 +7,7 @@
 --   HasPlaces, AreEntered     that there are marks for all components, and for each entry
 --   may_send, AreInjecting     each interface is marked in the slots in which it may send
 --   WakesQueue, NotesEvent     what wakes a queue, and what an event changes of the marks
---   queue_told, WakesTold     the queue to which a flit comes, and that it is woken
+--   queue_told, IsTold, WakesTold     the queue to which a flit comes, and that it is woken
 --
 -- This project's own.
 use Rattle.std.proofs.Common.{◌≡◌, ◌<◌, ◌≤◌, ◌+◌, ◌*◌, ◌%◌, ◌^◌, ℕ, List, [], length, All, Bool}
@@ -24,7 +24,7 @@ use Rattle.aeth_components.specs.declared.{lane.ChannelEnd.ChannelEnd}
 use Rattle.aeth_components.specs.Events.{event_part}
 use Rattle.aeth_components.specs.Switching.{SlotWrite, Writes, entry_of, event_end, slot_write}
 use Rattle.aeth_components.specs.SlotMarks.{MarksMore, marks_at}
-use Rattle.aeth_components.specs.View.{queue_of}
+use Rattle.aeth_components.specs.View.{queue_in, queue_of}
 
 -- The slot table of an interface; a router or a stage has none.
 abbrev pub entries_of : Part → List (Option ℕ)
@@ -93,7 +93,12 @@ queue_told flit (Router router) = None
 queue_told flit (TableRouter router) = None
 queue_told flit (Stage stage) = None
 
--- So it is where a flit has come to one of its queues.
+-- Such a queue is told, where it has something to send once the flit has come.
+abbrev pub IsTold : Flit → Part → Part → Option ℕ → Type 0
+IsTold flit old new told = (queue : ℕ) → queue_told flit old ≡ Some queue
+    → is_some (emitted (queue_in queue (Some new))) ≡ true → told ≡ Some queue
+
+-- A queue that is told is woken.
 abbrev pub WakesTold : ℕ → Option ℕ → Injecting → Injecting → Type 0
 WakesTold number None old new = new ≡ old
 WakesTold number (Some queue) old new = WakesQueue number queue old new

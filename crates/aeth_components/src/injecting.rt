@@ -1,10 +1,11 @@
 // Which interfaces may send in a slot, and marks of those that do.
 
 ghost use Rattle.std.specs.Prelude.{◌≡◌, ◌≢◌, ◌<◌, ◌≤◌, ◌+◌, ◌*◌, ◌%◌, ◌^◌, ◌⊎◌, ℕ, All, IfOk, count_by, false};
-ghost use Rattle.std.specs.Prelude.{length, map};
+ghost use Rattle.std.specs.Prelude.{Some, is_some, length, map, true};
 ghost use Rattle.aeth_base.specs.Limits.{max_slots};
 ghost use Rattle.aeth_base.specs.Marks.{bit_of, room_of};
 ghost use Rattle.aeth_ni.specs.Limits.{queues_of_interface};
+ghost use Rattle.aeth_ni.specs.Sending.{emitted};
 ghost use Rattle.aeth_ni.specs.Writes.{addressee};
 ghost use Rattle.aeth_components.specs.Events.{event_part};
 ghost use Rattle.aeth_components.specs.Frames.{IsWired, frame_of};
@@ -17,11 +18,12 @@ ghost use Rattle.aeth_components.specs.Injecting.{place_of_entry};
 ghost use Rattle.aeth_components.specs.Seen.{interfaces_driven};
 ghost use Rattle.aeth_components.specs.Sending.{Injects, IsSending};
 ghost use Rattle.aeth_components.specs.Turns.{sends_own};
+ghost use Rattle.aeth_components.specs.View.{queue_in};
 ghost use Rattle.aeth_components.specs.declared.event.Event.TheVariants.{Change};
 
 use crate::event::Event;
 use crate::handing::Handing;
-use crate::parts::sends_in;
+use crate::parts::{may_send, sends_in};
 use crate::slot_marks::SlotMarks;
 use aeth_base::{Marks, NoMemory, Steps};
 use aeth_clocked::{Clocked, Wires};
@@ -105,7 +107,20 @@ impl Injecting {
         }
     }
 
-    // So it is where a flit has come to one of its queues.
+    // So it may where a queue has changed that has something to send then.
+    pub(crate) fn tell(&mut self, part: &Part, number: usize, queue: u8)
+        requires { HasPlaces (number + 1) self.old }
+        ensures woken { is_some (emitted (queue_in queue (Some part.now))) ≡ true
+            → WakesQueue number queue self.old self.new }
+        ensures kept { is_some (emitted (queue_in queue (Some part.now))) ≡ false
+            → self.new ≡ self.old }
+    {
+        if may_send(part, queue) {
+            self.wake(number, queue);
+        }
+    }
+
+    // So it may where a flit has come to one of its queues.
     pub(crate) fn wake_told(&mut self, number: usize, told: Option<u8>)
         requires { HasPlaces (number + 1) self.old }
         ensures { WakesTold number told self.old self.new }

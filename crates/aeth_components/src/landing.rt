@@ -6,7 +6,7 @@ ghost use Rattle.aeth_components.specs.Changes.{on_interface};
 ghost use Rattle.aeth_components.specs.Counting.{counted, flits_counted, noted};
 ghost use Rattle.aeth_components.specs.Ends.{AreEnds};
 ghost use Rattle.aeth_components.specs.Frames.{IsWired, frame_of};
-ghost use Rattle.aeth_components.specs.Injecting.{AreInjecting, queue_told};
+ghost use Rattle.aeth_components.specs.Injecting.{AreInjecting, IsTold};
 ghost use Rattle.aeth_components.specs.Lanes.{IsLane};
 ghost use Rattle.aeth_components.specs.Passing.{AreForwarded, forwarded_from, way_of};
 ghost use Rattle.aeth_components.specs.Seen.{flits_landed, interfaces_latched, landed};
@@ -101,13 +101,21 @@ fn count_flit(flits: &mut [u32], wire: usize)
     }
 }
 
-// Has a component latch a flit, where it is an interface, and gives the queue to which it comes, if to any.
+// Has a component latch a flit, where it is an interface, and gives the queue to which it comes, where it comes to one that
+// has something to send then.
 fn latch_one(part: &mut Part, flit: Flit) -> Option<u8>
     ensures part { part.new ≡ on_interface (landed (Some flit)) part.old }
-    ensures told { result ≡ queue_told flit part.old }
+    ensures told { IsTold flit part.old part.new result }
 {
     match part {
-        Part::Interface(ni) => Some(ni.land(flit)?.0),
+        Part::Interface(ni) => {
+            let queue = ni.land(flit)?.0;
+            if ni.is_queue_mute(queue) {
+                None
+            } else {
+                Some(queue)
+            }
+        }
         _ => None,
     }
 }

@@ -1,10 +1,11 @@
 // What is done at one queue of a component, where this is an interface, or to the table of one that is
 // a router with a table.
 
-ghost use Rattle.std.specs.Prelude.{◌≡◌, ◌<◌, ◌≤◌, ◌%◌, ◌^◌, ℕ, All, IsTrue, length, true};
+ghost use Rattle.std.specs.Prelude.{◌≡◌, ◌<◌, ◌≤◌, ◌%◌, ◌^◌, ℕ, All, IsTrue, Some, is_some, length, true};
 ghost use Rattle.std.specs.List.Sorted.{IsNonDecreasingBy};
 ghost use Rattle.aeth_ni.specs.Interface.{changed};
 ghost use Rattle.aeth_ni.specs.Limits.{queues_of_interface};
+ghost use Rattle.aeth_ni.specs.Sending.{emitted};
 ghost use Rattle.aeth_components.specs.Changes.{event_done, on_interface, told_by};
 ghost use Rattle.aeth_components.specs.Entering.{TakesRows, entered, with_rows};
 ghost use Rattle.aeth_components.specs.Events.{Suits};
@@ -13,6 +14,7 @@ ghost use Rattle.aeth_components.specs.Injecting.{entries_of};
 ghost use Rattle.aeth_components.specs.Queues.{brought_by, draws, drawn, filled, fits};
 ghost use Rattle.aeth_components.specs.Handing.{room_left};
 ghost use Rattle.aeth_components.specs.Turns.{sends_own};
+ghost use Rattle.aeth_components.specs.View.{queue_in};
 
 use crate::event::Event;
 use crate::queues;
@@ -122,6 +124,16 @@ pub(crate) fn sends_in(part: &Part, slot: usize) -> bool
             let _ = ni.last();
             !ni.is_mute_in(slot)
         }
+        _ => false,
+    }
+}
+
+// Whether a queue of a component has something to send; a router or a stage has none.
+pub(crate) fn may_send(part: &Part, queue: u8) -> bool
+    ensures { result ≡ is_some (emitted (queue_in queue (Some part.now))) }
+{
+    match part {
+        Part::Interface(ni) => !ni.is_queue_mute(queue),
         _ => false,
     }
 }

@@ -53,7 +53,7 @@ pub(crate) fn refill_one(
         let left = &words[from..first + lane.accepted as usize];
         let part = &mut parts[lane.sender.ni.0 as usize];
         lane.handed += hand(part, lane.sender.queue, left);
-        injecting.wake(lane.sender.ni.0 as usize, lane.sender.queue);
+        injecting.tell(part, lane.sender.ni.0 as usize, lane.sender.queue);
     }
 }
 
@@ -68,7 +68,7 @@ pub(crate) fn take_one(parts: &mut [Part], injecting: &mut Injecting, lane: &mut
         let pull = lane.pull.min(lane.landed - lane.taken);
         let part = &mut parts[lane.receiver.ni.0 as usize];
         lane.taken += draw(part, lane.receiver.queue, pull);
-        injecting.wake(lane.receiver.ni.0 as usize, lane.receiver.queue);
+        injecting.tell(part, lane.receiver.ni.0 as usize, lane.receiver.queue);
     }
 }
 

@@ -13,6 +13,7 @@ ghost use Rattle.aeth_ni.specs.Component.{absorbed, landed_at, last_of};
 ghost use Rattle.aeth_ni.specs.Component.{interface_outputs, interface_inputs, interface_emit};
 ghost use Rattle.aeth_ni.specs.Component.{interface_after, interface_absorb};
 ghost use Rattle.aeth_ni.specs.Agreement.{interface_absorb-agrees};
+ghost use Rattle.aeth_ni.specs.Sending.{emitted};
 ghost use Rattle.aeth_ni.specs.Writes.{addressee, IsWritable, written};
 
 use crate::queue::{Queue, Route, WAITING_WORDS};
@@ -221,6 +222,17 @@ impl Ni {
             ↔ (emitted_by (slice_index_or self.now.entries slot None) self.now.queues ≡ None) }
     {
         is_mute(&self.queues, self.entries[slot])
+    }
+
+    /// Whether a queue sends nothing in a slot of its own, as the interface stands. A number that none of
+    /// the 32 queues has sends nothing.
+    pub fn is_queue_mute(&self, queue: u8) -> bool
+        ensures { IsTrue result ↔ (emitted (queue_at self.now.queues queue) ≡ None) }
+    {
+        match self.queues.get(queue as usize) {
+            Some(queue) => queue.is_mute(),
+            None => true,
+        }
     }
 }
 
