@@ -10,12 +10,9 @@ ghost use Rattle.aeth_chain.specs.Shapes.{AreShapesIn, place_in, shape_in, shape
 
 use crate::channels::is_channel;
 use crate::item::ChainItem;
-use aeth_app::App;
 use aeth_base::{Channel, NoMemory, UseId};
-use aeth_chip::Chip;
-use aeth_group::Groups;
 use aeth_ni::ChannelRow;
-use aeth_plan::Plan;
+use aeth_plan::{Design, Planned};
 use aeth_server::ChannelShape;
 use aeth_tables::{Tables, tables};
 use std::alloc::Global;
@@ -24,23 +21,23 @@ use std::alloc::Global;
 /// chain. `Err` where there was no memory.
 pub fn chain_shapes(
     alloc: Global,
-    chip: &Chip,
-    app: &App,
-    groups: &Groups,
-    plan: &Plan,
+    design: &Design,
+    planned: &Planned,
     u: UseId,
     items: &[ChainItem],
 ) -> Result<Vec<ChannelShape>, NoMemory>
-    requires groups { groups.now ≡ groups_of app.now }
-    requires design { IsDesign chip.now app.now plan.now }
-    requires use_case { u.0 < length app.now.uses }
-    requires items { AreItemsOf app.now u.0 items.now }
-    ensures gives { IfOk result (λ shapes. shapes.items
-        ≡ shapes_in (tables_of chip.now app.now (groups_of app.now) plan.now u) items.now) }
-    ensures tabled { IfOk result (λ shapes. AreShapesIn
-        (tables_of chip.now app.now (groups_of app.now) plan.now u) items.now shapes.items) }
+    requires groups { planned.now.groups ≡ groups_of design.now.app }
+    requires design { IsDesign design.now.chip design.now.app planned.now.plan }
+    requires use_case { u.0 < length design.now.app.uses }
+    requires items { AreItemsOf design.now.app u.0 items.now }
+    ensures gives { IfOk result (λ shapes. shapes.items ≡ shapes_in (tables_of design.now.chip
+        design.now.app (groups_of design.now.app) planned.now.plan u) items.now) }
+    ensures tabled { IfOk result (λ shapes. AreShapesIn (tables_of design.now.chip design.now.app
+        (groups_of design.now.app) planned.now.plan u) items.now shapes.items) }
     ensures chain { IfOk result (λ shapes. IsChain items.now shapes.items) }
 {
+    let Design { chip, app } = design;
+    let Planned { groups, plan } = planned;
     let tables = tables(alloc, chip, app, groups, plan, u)?;
     shapes_in(alloc, &tables, items)
 }

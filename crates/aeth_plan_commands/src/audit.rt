@@ -16,6 +16,7 @@ ghost use Rattle.aeth_tables.specs.Switching.{spans_of};
 ghost use Rattle.aeth_trace.specs.Switches.{AreSwitchesOf};
 ghost use Rattle.std.specs.Prelude.{◌≡◌, IfOk, IfSome, codes, length, map, string_bytes};
 
+use crate::accepted::AcceptedDesign;
 use crate::command::PlanCommand;
 use aeth_answers::{Answer, FileName, Stop, ended, judged, number_in, read_file};
 use aeth_audit::{Audit, LinkLog, audit, read_log};
@@ -73,62 +74,67 @@ pub fn answer<H: Shelf>(
         (audit_task files.now cycles) result }
 {
     let design = read_design(alloc, &files.chip, &files.app, shelf)?;
-    planned_answer(alloc, &design, files, cycles, shelf)
+    planned_answer(alloc, design, files, cycles, shelf)
 }
 
 /// The same for a chip and an application.
 fn planned_answer<H: Shelf>(
     alloc: Global,
-    design: &Design,
+    design: Design,
     files: &AuditFiles,
     cycles: u32,
     shelf: &mut H,
 ) -> Result<Answer, Stop>
-    requires { IsAppOf design.now.chip design.now.app }
+    requires { IsAppOf design.chip design.app }
     ensures { Answers (files_of H.Shelf shelf.old) (files_of H.Shelf shelf.new)
-        (planned_task design.now files.now cycles) result }
+        (planned_task design files.now cycles) result }
 {
-    let planned = read_accepted(alloc, design, &files.plan, shelf)?;
-    switched_answer(alloc, design, &planned, files, cycles, shelf)
+    let planned = read_accepted(alloc, &design, &files.plan, shelf)?;
+    let accepted = AcceptedDesign { design, planned };
+    switched_answer(alloc, &accepted, files, cycles, shelf)
 }
 
 /// The same for an accepted plan.
 fn switched_answer<H: Shelf>(
     alloc: Global,
-    design: &Design,
-    planned: &Planned,
+    accepted: &AcceptedDesign,
     files: &AuditFiles,
     cycles: u32,
     shelf: &mut H,
 ) -> Result<Answer, Stop>
-    requires of_chip { IsAppOf design.now.chip design.now.app }
-    requires groups { planned.now.groups ≡ groups_of design.now.app }
-    requires design { IsDesign design.now.chip design.now.app planned.now.plan }
+    requires of_chip { IsAppOf accepted.now.design.chip accepted.now.design.app }
+    requires groups { accepted.now.planned.groups ≡ groups_of accepted.now.design.app }
+    requires design { IsDesign accepted.now.design.chip accepted.now.design.app
+        accepted.now.planned.plan }
     ensures { Answers (files_of H.Shelf shelf.old) (files_of H.Shelf shelf.new)
-        (switched_task design.now planned.now.plan files.now cycles) result }
+        (switched_task accepted.now.design accepted.now.planned.plan files.now cycles) result }
 {
+    let AcceptedDesign { design, planned } = accepted;
     let switches = read_switches_file(alloc, design, planned, &files.switches, shelf)?;
-    log_answer(alloc, design, planned, &switches, files, cycles, shelf)
+    log_answer(alloc, accepted, &switches, files, cycles, shelf)
 }
 
 /// The same for an accepted plan and switches.
 fn log_answer<H: Shelf>(
     alloc: Global,
-    design: &Design,
-    planned: &Planned,
+    accepted: &AcceptedDesign,
     switches: &Switches,
     files: &AuditFiles,
     cycles: u32,
     shelf: &mut H,
 ) -> Result<Answer, Stop>
-    requires of_chip { IsAppOf design.now.chip design.now.app }
-    requires groups { planned.now.groups ≡ groups_of design.now.app }
-    requires design { IsDesign design.now.chip design.now.app planned.now.plan }
-    requires switches { AreSwitchesOf design.now.app (spans_of design.now.chip design.now.app
-        (groups_of design.now.app) planned.now.plan) switches.now }
+    requires of_chip { IsAppOf accepted.now.design.chip accepted.now.design.app }
+    requires groups { accepted.now.planned.groups ≡ groups_of accepted.now.design.app }
+    requires design { IsDesign accepted.now.design.chip accepted.now.design.app
+        accepted.now.planned.plan }
+    requires switches { AreSwitchesOf accepted.now.design.app (spans_of accepted.now.design.chip
+        accepted.now.design.app (groups_of accepted.now.design.app) accepted.now.planned.plan)
+        switches.now }
     ensures { Answers (files_of H.Shelf shelf.old) (files_of H.Shelf shelf.new)
-        (log_task design.now planned.now.plan switches.now files.now cycles) result }
+        (log_task accepted.now.design accepted.now.planned.plan switches.now files.now cycles)
+        result }
 {
+    let AcceptedDesign { design, planned } = accepted;
     let log = read_log_file(alloc, &design.chip, &files.log, shelf)?;
     ended(audited(alloc, design, planned, switches, &log, cycles))
 }

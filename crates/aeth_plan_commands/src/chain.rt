@@ -13,6 +13,7 @@ ghost use Rattle.aeth_group.specs.Members.{groups_of};
 ghost use Rattle.aeth_plan.specs.Design.{IsDesign};
 ghost use Rattle.std.specs.Prelude.{◌≡◌, ◌<◌, ◌≤◌, IfOk, IfSome, length, map, string_bytes};
 
+use crate::accepted::AcceptedDesign;
 use crate::command::PlanCommand;
 use aeth_answers::{Answer, FileName, Stop, ended, judged, number_in};
 use aeth_app::App;
@@ -48,6 +49,14 @@ pub struct ForwardingRun {
     pub u: UseId,
     pub items: Vec<ChainItem>,
     pub cycles: u32,
+}
+
+/// A chain as words name it: its use case, its items, and for how many cycles it runs.
+#[derive(Clone, Copy)]
+struct NamedChain<'a> {
+    u: &'a Name,
+    items: &'a [ItemName],
+    cycles: u32,
 }
 
 /// The command of the words CHIP APP PLAN USE CHAIN WORDS RECEIVERS CYCLES.
@@ -92,48 +101,55 @@ pub fn answer<H: Shelf>(
         (chain_task files.now name.now items.now cycles) result }
 {
     let design = read_design(alloc, &files.chip, &files.app, shelf)?;
-    named_answer(alloc, &design, files, name, items.as_slice(), cycles, shelf)
+    let chain = NamedChain {
+        u: name,
+        items: items.as_slice(),
+        cycles,
+    };
+    named_answer(alloc, design, files, &chain, shelf)
 }
 
 /// The same for a chip and an application.
 fn named_answer<H: Shelf>(
     alloc: Global,
-    design: &Design,
+    design: Design,
     files: &ChainFiles,
-    name: &Name,
-    names: &[ItemName],
-    cycles: u32,
+    chain: &NamedChain,
     shelf: &mut H,
 ) -> Result<Answer, Stop>
-    requires names { AreItemNames names.now }
-    requires least { 1 ≤ cycles }
-    requires most { cycles ≤ max_cycles }
+    requires names { AreItemNames chain.now.items.now }
+    requires least { 1 ≤ chain.now.cycles }
+    requires most { chain.now.cycles ≤ max_cycles }
     ensures { Answers (files_of H.Shelf shelf.old) (files_of H.Shelf shelf.new)
-        (named_task design.now files.now name.now names.now cycles) result }
+        (named_task design files.now chain.now.u.now chain.now.items.now chain.now.cycles)
+        result }
 {
-    let u = named_use(alloc, &design.app, name)?;
-    items_answer(alloc, design, files, u, names, cycles, shelf)
+    let u = named_use(alloc, &design.app, chain.u)?;
+    items_answer(alloc, design, files, u, chain, shelf)
 }
 
 /// The same for a use case.
 fn items_answer<H: Shelf>(
     alloc: Global,
-    design: &Design,
+    design: Design,
     files: &ChainFiles,
     u: UseId,
-    names: &[ItemName],
-    cycles: u32,
+    chain: &NamedChain,
     shelf: &mut H,
 ) -> Result<Answer, Stop>
-    requires names { AreItemNames names.now }
-    requires use_case { u.0 < length design.now.app.uses }
-    requires least { 1 ≤ cycles }
-    requires most { cycles ≤ max_cycles }
+    requires names { AreItemNames chain.now.items.now }
+    requires use_case { u.0 < length design.app.uses }
+    requires least { 1 ≤ chain.now.cycles }
+    requires most { chain.now.cycles ≤ max_cycles }
     ensures { Answers (files_of H.Shelf shelf.old) (files_of H.Shelf shelf.new)
-        (items_task design.now files.now u names.now cycles) result }
+        (items_task design files.now u chain.now.items.now chain.now.cycles) result }
 {
-    let items = judged_items(alloc, &design.app, u, names)?;
-    let run = ForwardingRun { u, items, cycles };
+    let items = judged_items(alloc, &design.app, u, chain.items)?;
+    let run = ForwardingRun {
+        u,
+        items,
+        cycles: chain.cycles,
+    };
     planned_answer(alloc, design, files, &run, shelf)
 }
 
@@ -156,65 +172,67 @@ fn judged_items(
 /// What a chain shows, for a chip and an application.
 fn planned_answer<H: Shelf>(
     alloc: Global,
-    design: &Design,
+    design: Design,
     files: &ChainFiles,
     run: &ForwardingRun,
     shelf: &mut H,
 ) -> Result<Answer, Stop>
-    requires use_case { run.now.u.0 < length design.now.app.uses }
-    requires items { AreItemsOf design.now.app run.now.u.0 run.now.items.items }
+    requires use_case { run.now.u.0 < length design.app.uses }
+    requires items { AreItemsOf design.app run.now.u.0 run.now.items.items }
     requires least { 1 ≤ run.now.cycles }
     requires most { run.now.cycles ≤ max_cycles }
     ensures { Answers (files_of H.Shelf shelf.old) (files_of H.Shelf shelf.new)
-        (planned_task design.now files.now run.now.u run.now.items.items run.now.cycles) result }
+        (planned_task design files.now run.now.u run.now.items.items run.now.cycles) result }
 {
-    let planned = read_accepted(alloc, design, &files.plan, shelf)?;
-    words_answer(alloc, design, &planned, files, run, shelf)
+    let planned = read_accepted(alloc, &design, &files.plan, shelf)?;
+    let accepted = AcceptedDesign { design, planned };
+    words_answer(alloc, &accepted, files, run, shelf)
 }
 
 /// The same for an accepted plan.
 fn words_answer<H: Shelf>(
     alloc: Global,
-    design: &Design,
-    planned: &Planned,
+    accepted: &AcceptedDesign,
     files: &ChainFiles,
     run: &ForwardingRun,
     shelf: &mut H,
 ) -> Result<Answer, Stop>
-    requires groups { planned.now.groups ≡ groups_of design.now.app }
-    requires design { IsDesign design.now.chip design.now.app planned.now.plan }
-    requires use_case { run.now.u.0 < length design.now.app.uses }
-    requires items { AreItemsOf design.now.app run.now.u.0 run.now.items.items }
+    requires groups { accepted.now.planned.groups ≡ groups_of accepted.now.design.app }
+    requires design { IsDesign accepted.now.design.chip accepted.now.design.app
+        accepted.now.planned.plan }
+    requires use_case { run.now.u.0 < length accepted.now.design.app.uses }
+    requires items { AreItemsOf accepted.now.design.app run.now.u.0 run.now.items.items }
     requires least { 1 ≤ run.now.cycles }
     requires most { run.now.cycles ≤ max_cycles }
     ensures { Answers (files_of H.Shelf shelf.old) (files_of H.Shelf shelf.new)
-        (words_task design.now files.now planned.now.plan run.now.u run.now.items.items
-        run.now.cycles) result }
+        (words_task accepted.now.design files.now accepted.now.planned.plan run.now.u
+        run.now.items.items run.now.cycles) result }
 {
-    let words = read_words_file(alloc, &design.app, &files.words, shelf)?;
-    pulled_answer(alloc, design, planned, files, run, &words, shelf)
+    let words = read_words_file(alloc, &accepted.design.app, &files.words, shelf)?;
+    pulled_answer(alloc, accepted, files, run, &words, shelf)
 }
 
 /// The same for words.
 fn pulled_answer<H: Shelf>(
     alloc: Global,
-    design: &Design,
-    planned: &Planned,
+    accepted: &AcceptedDesign,
     files: &ChainFiles,
     run: &ForwardingRun,
     words: &Words,
     shelf: &mut H,
 ) -> Result<Answer, Stop>
-    requires groups { planned.now.groups ≡ groups_of design.now.app }
-    requires design { IsDesign design.now.chip design.now.app planned.now.plan }
-    requires use_case { run.now.u.0 < length design.now.app.uses }
-    requires items { AreItemsOf design.now.app run.now.u.0 run.now.items.items }
+    requires groups { accepted.now.planned.groups ≡ groups_of accepted.now.design.app }
+    requires design { IsDesign accepted.now.design.chip accepted.now.design.app
+        accepted.now.planned.plan }
+    requires use_case { run.now.u.0 < length accepted.now.design.app.uses }
+    requires items { AreItemsOf accepted.now.design.app run.now.u.0 run.now.items.items }
     requires least { 1 ≤ run.now.cycles }
     requires most { run.now.cycles ≤ max_cycles }
     ensures { Answers (files_of H.Shelf shelf.old) (files_of H.Shelf shelf.new)
-        (pulled_task design.now files.now planned.now.plan run.now.u run.now.items.items
-        run.now.cycles words.now) result }
+        (pulled_task accepted.now.design files.now accepted.now.planned.plan run.now.u
+        run.now.items.items run.now.cycles words.now) result }
 {
+    let AcceptedDesign { design, planned } = accepted;
     let receivers = read_receivers_file(alloc, &design.app, &files.receivers, shelf)?;
     ended(printed(alloc, design, planned, run, words, &receivers))
 }
@@ -237,10 +255,8 @@ fn printed(
     ensures { IfOk result (λ answer. answer ≡ chain_job design.now planned.now.plan run.now.u
         run.now.items.items run.now.cycles words.now receivers.now) }
 {
-    let Design { chip, app } = design;
-    let Planned { groups, plan } = planned;
-    let shapes = chain_shapes(alloc, chip, app, groups, plan, run.u, &run.items)?;
-    text_of(alloc, app, run, &shapes, words, receivers)
+    let shapes = chain_shapes(alloc, design, planned, run.u, &run.items)?;
+    text_of(alloc, &design.app, run, &shapes, words, receivers)
 }
 
 /// The text of a chain whose channels have these shapes.

@@ -2,6 +2,7 @@
 //! audit of what links carried.
 #![tactic(auto)]
 
+mod accepted;
 mod audit;
 mod chain;
 mod command;

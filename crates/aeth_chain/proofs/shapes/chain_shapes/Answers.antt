@@ -11,15 +11,15 @@ use Rattle.aeth_chain.proofs.shapes.chain_shapes.Goals as goal
 pub returns-clause-gives : goal.returns-clause-gives
 returns-clause-gives c =
     let u = c.args.u in
-    let plan = c.args.plan.now in
+    let plan = c.args.planned.now.plan in
     rw (← c.requires.groups) (rw c.in_ok-tables.ensures.gives at c.shapes_in.ensures)
 
 -- Each channel has its own there.
 pub returns-clause-tabled : goal.returns-clause-tabled
 returns-clause-tabled c =
-    let chip = c.args.chip.now in
-    let app = c.args.app.now in
-    let plan = c.args.plan.now in
+    let chip = c.args.design.now.chip in
+    let app = c.args.design.now.app in
+    let plan = c.args.planned.now.plan in
     let u = c.args.u in
     let items = c.args.items.now in
     let tables = tables_of chip app (groups_of app) plan u in
@@ -35,9 +35,9 @@ returns-clause-tabled c =
 -- With them the items are a chain.
 pub returns-clause-chain : goal.returns-clause-chain
 returns-clause-chain c =
-    let chip = c.args.chip.now in
-    let app = c.args.app.now in
-    let plan = c.args.plan.now in
+    let chip = c.args.design.now.chip in
+    let app = c.args.design.now.app in
+    let plan = c.args.planned.now.plan in
     let u = c.args.u in
     let items = c.args.items.now in
     let tables = tables_of chip app (groups_of app) plan u in

@@ -10,20 +10,20 @@ pub returns-in_err-items : goal.returns-in_err-items
 returns-in_err-items g c =
     let p = err_from_is_err_and c.from_residual.result c.from_residual.ensures.1 in
     let now = files_of g.H.Shelf c.args.shelf.now in
-    let design = c.args.design.now in
+    let design = c.args.design in
     rw (p.1, p.2)
-    (Answers-stopped now now (judged_items design.app c.args.u c.args.names.now)
+    (Answers-stopped now now (judged_items design.app c.args.u c.args.chain.now.items.now)
     (λ (items : Vec ChainItem Global). items.items)
-    (λ items. planned_task design c.args.files.now c.args.u items c.args.cycles) _
+    (λ items. planned_task design c.args.files.now c.args.u items c.args.chain.now.cycles) _
     (c.in_err-items.ensures.judges now))
 
 -- What comes of the items is answered.
 pub returns : goal.returns
 returns g c =
     let now = files_of g.H.Shelf c.args.shelf.now in
-    let design = c.args.design.now in
+    let design = c.args.design in
     Answers-then now now (files_of g.H.Shelf c.planned_answer.new.shelf)
-    (judged_items design.app c.args.u c.args.names.now)
+    (judged_items design.app c.args.u c.args.chain.now.items.now)
     (λ (items : Vec ChainItem Global). items.items) c.in_ok-items.items
-    (λ items. planned_task design c.args.files.now c.args.u items c.args.cycles)
+    (λ items. planned_task design c.args.files.now c.args.u items c.args.chain.now.cycles)
     c.planned_answer.result (c.in_ok-items.ensures.judges now) c.planned_answer.ensures
