@@ -14,7 +14,7 @@ import sys
 TOP = pathlib.Path(__file__).resolve().parent.parent
 MOST = 6
 KNOWN = {
-    ("aeth_accepted", "of"), ("aeth_audit", "audit"), ("aeth_machine", "make"), ("aeth_paths", "find"), ("aeth_paths", "find_counted"),
+    ("aeth_audit", "audit"), ("aeth_machine", "make"), ("aeth_paths", "find"), ("aeth_paths", "find_counted"),
     ("aeth_sim", "make"), ("aeth_sim", "new"), ("aeth_table_network", "make"), ("aeth_table_network", "new"),
 }
 UNTIED = {("aeth_components", "count_received"), ("aeth_components", "land"), ("aeth_components", "run")}

@@ -2,6 +2,7 @@
 -- read for them.
 --
 --   Inputs, AreAccepted      the inputs, and what holds of accepted ones
+--   inputs_with      the inputs that have these
 --   design_on, design_of, run_of      the design of a plan, that of inputs, and the run of inputs
 --   row_at      the row of a channel in a group
 --   IsTabled      a flow has what a row says
@@ -31,6 +32,20 @@ pub record Inputs : Type 0 where
   pub pulls : List PullRow
   pub switches : List SwitchRow
   pub cycles : ℕ
+
+-- The inputs of a chip, an application and a plan for it, the words that are offered, how receivers
+-- take them, the switches between use cases, and the number of cycles.
+abbrev pub inputs_with : ChipData → AppData → PlanData → List WordRow → List PullRow
+    → List SwitchRow → ℕ → Inputs
+inputs_with chip app plan words pulls switches cycles = record {
+  chip = chip;
+  app = app;
+  plan = plan;
+  words = words;
+  pulls = pulls;
+  switches = switches;
+  cycles = cycles;
+}
 
 -- The design of a plan for a chip and an application: with its seats and its grants.
 abbrev pub design_on : ChipData → AppData → PlanData → Design

@@ -1,7 +1,7 @@
 // The inputs of a run as one value.
 
 ghost use Rattle.std.specs.Prelude.{◌≡◌};
-ghost use Rattle.aeth_accepted.specs.Inputs.{AreAccepted};
+ghost use Rattle.aeth_accepted.specs.Inputs.{AreAccepted, inputs_with};
 ghost use Rattle.aeth_group.specs.Members.{groups_of};
 
 use aeth_app::App;
@@ -11,6 +11,15 @@ use aeth_plan::Plan;
 use aeth_trace::{Receivers, Switches, Words};
 use std::marker::Model;
 
+/// The traces of a run, which are borrowed: the words that are offered in it, how its receivers take
+/// them, and its switches between use cases.
+#[derive(Clone, Copy)]
+pub struct BorrowedTraces<'a> {
+    pub words: &'a Words,
+    pub receivers: &'a Receivers,
+    pub switches: &'a Switches,
+}
+
 /// The inputs of a run, which are accepted, with the groups of their application. They are borrowed,
 /// and passed on as one value.
 #[derive(Drop)]
@@ -19,38 +28,23 @@ pub struct RunInputs<'a> {
     app: &'a App,
     groups: &'a Groups,
     plan: &'a Plan,
-    words: &'a Words,
-    receivers: &'a Receivers,
-    switches: &'a Switches,
+    traces: BorrowedTraces<'a>,
     cycles: u32,
 }
 
 impl<'a> Model for RunInputs<'a> {
     ghost use Rattle.std.specs.Prelude.{◌≡◌};
-    ghost use Rattle.aeth_accepted.specs.Inputs.{AreAccepted, Inputs};
+    ghost use Rattle.aeth_accepted.specs.Inputs.{AreAccepted, Inputs, inputs_with};
     ghost use Rattle.aeth_group.specs.Members.{groups_of};
 
     ghost Value = { Inputs };
 
-    ghost view = { λ all. record {
-      chip = all.chip.now;
-      app = all.app.now;
-      plan = all.plan.now;
-      words = all.words.now;
-      pulls = all.receivers.now;
-      switches = all.switches.now;
-      cycles = all.cycles;
-    } };
+    ghost view = { λ all. inputs_with all.chip.now all.app.now all.plan.now all.traces.words.now
+        all.traces.receivers.now all.traces.switches.now all.cycles };
 
-    ghost invariant = { λ all. (all.groups.now ≡ groups_of all.app.now) × AreAccepted (record {
-      chip = all.chip.now;
-      app = all.app.now;
-      plan = all.plan.now;
-      words = all.words.now;
-      pulls = all.receivers.now;
-      switches = all.switches.now;
-      cycles = all.cycles;
-    }) };
+    ghost invariant = { λ all. (all.groups.now ≡ groups_of all.app.now)
+        × AreAccepted (inputs_with all.chip.now all.app.now all.plan.now all.traces.words.now
+        all.traces.receivers.now all.traces.switches.now all.cycles) };
 }
 
 impl<'a> RunInputs<'a> {
@@ -60,39 +54,21 @@ impl<'a> RunInputs<'a> {
         app: &'a App,
         groups: &'a Groups,
         plan: &'a Plan,
-        words: &'a Words,
-        receivers: &'a Receivers,
-        switches: &'a Switches,
+        traces: BorrowedTraces<'a>,
         cycles: u32,
     ) -> RunInputs<'a>
         requires groups { groups.now ≡ groups_of app.now }
-        requires accepted { AreAccepted (record {
-          chip = chip.now;
-          app = app.now;
-          plan = plan.now;
-          words = words.now;
-          pulls = receivers.now;
-          switches = switches.now;
-          cycles = cycles;
-        }) }
-        ensures { result ≡ record {
-          chip = chip.now;
-          app = app.now;
-          plan = plan.now;
-          words = words.now;
-          pulls = receivers.now;
-          switches = switches.now;
-          cycles = cycles;
-        } }
+        requires accepted { AreAccepted (inputs_with chip.now app.now plan.now traces.words.now
+            traces.receivers.now traces.switches.now cycles) }
+        ensures { result ≡ inputs_with chip.now app.now plan.now traces.words.now
+            traces.receivers.now traces.switches.now cycles }
     {
         RunInputs {
             chip,
             app,
             groups,
             plan,
-            words,
-            receivers,
-            switches,
+            traces,
             cycles,
         }
     }
@@ -136,21 +112,21 @@ impl<'a> RunInputs<'a> {
     pub fn words(&self) -> &'a Words
         ensures { result.now ≡ self.now.words }
     {
-        self.words
+        self.traces.words
     }
 
     /// How receivers take words.
     pub fn receivers(&self) -> &'a Receivers
         ensures { result.now ≡ self.now.pulls }
     {
-        self.receivers
+        self.traces.receivers
     }
 
     /// The switches between use cases.
     pub fn switches(&self) -> &'a Switches
         ensures { result.now ≡ self.now.switches }
     {
-        self.switches
+        self.traces.switches
     }
 
     /// The number of cycles.

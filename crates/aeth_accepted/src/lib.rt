@@ -4,4 +4,4 @@
 mod inputs;
 pub mod laws;
 
-pub use inputs::RunInputs;
+pub use inputs::{BorrowedTraces, RunInputs};

@@ -92,8 +92,16 @@ impl Model for Tries {
 }
 
 impl Tries {
-    /// The tries of an allocation with the application's price. `Err` where there was no memory.
-    pub fn of(alloc: Global, chip: &Chip, app: &App, groups: &Groups) -> Result<Tries, NoMemory>
+    /// The tries of an allocation with the application's price, by the chip's distances. `Err` where
+    /// there was no memory.
+    pub fn of(
+        alloc: Global,
+        chip: &Chip,
+        far: &Distances,
+        app: &App,
+        groups: &Groups,
+    ) -> Result<Tries, NoMemory>
+        requires far { far.now ≡ chip.now.links }
         requires app { IsAppOf chip.now app.now }
         requires groups { groups.now ≡ groups_of app.now }
         ensures gives { IfOk result (λ tries.
@@ -101,11 +109,12 @@ impl Tries {
         ensures fit { IfOk result (All (IsTrialOf chip.now)) }
     {
         match app.price() {
-            Price::Hops => tries_with(alloc, chip, app, groups, &Cost::new(|_delay, _used| 1)),
+            Price::Hops => tries_with(alloc, chip, far, app, groups, &Cost::new(|_delay, _used| 1)),
             Price::Pressure => {
                 tries_with(
                     alloc,
                     chip,
+                    far,
                     app,
                     groups,
                     &Cost::new(|_delay, used| 1 + used),
@@ -147,10 +156,12 @@ impl Tries {
 fn tries_with<F: Fn(u32, u32) -> u32>(
     alloc: Global,
     chip: &Chip,
+    far: &Distances,
     app: &App,
     groups: &Groups,
     cost: &Cost<F>,
 ) -> Result<Tries, NoMemory>
+    requires far { far.now ≡ chip.now.links }
     requires app { IsAppOf chip.now app.now }
     requires groups { groups.now ≡ groups_of app.now }
     ensures gives { IfOk result (λ tries. tries
@@ -159,10 +170,9 @@ fn tries_with<F: Fn(u32, u32) -> u32>(
 {
     let _slots = chip.slots();
     let _app_slots = app.slots();
-    let far = Distances::of(alloc, chip)?;
     let design = Design {
         chip,
-        far: &far,
+        far,
         app,
         cost,
     };
@@ -208,7 +218,8 @@ pub fn trials(
         trials.items ≡ trials_of chip.now app.now groups.now (prices_of app.now.price)) }
     ensures fit { IfOk result (λ trials. All (IsTrialOf chip.now) trials.items) }
 {
-    let tries = Tries::of(alloc, chip, app, groups)?;
+    let far = Distances::of(alloc, chip)?;
+    let tries = Tries::of(alloc, chip, &far, app, groups)?;
     all_trials(alloc, &tries)
 }
 

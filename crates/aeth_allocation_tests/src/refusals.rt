@@ -205,32 +205,38 @@ fn is_judged(
     requires one { length trials.now ≡ 1 }
 {
     match read_cuts(alloc, judged.0.as_bytes(), chip, app, groups, trials) {
-        Ok(blocks) => is_found(alloc, chip, app, groups, &trials[0], &blocks, judged),
+        Ok(blocks) => match verdict_on(alloc, chip, app, groups, &trials[0], &blocks) {
+            Some(found) => Some(is_found(&blocks, &found, judged)),
+            None => None,
+        },
         Err(_) => None,
     }
 }
 
-/// Whether the text's only lists are these, and that is found of them.
-fn is_found(
+/// The verdict on the text's only lists.
+fn verdict_on(
     alloc: Global,
     chip: &Chip,
     app: &App,
     groups: &Groups,
     trial: &Trial,
     blocks: &[Cuts],
-    judged: &Judged,
-) -> Option<bool>
+) -> Option<CutVerdict>
     requires trial { IsTrialOf chip.now trial.now }
     requires links { All (AreLinksOf chip.now) blocks.now }
 {
     if blocks.len() != 1 {
         return None;
     }
-    let cuts = &blocks[0];
-    match verify(alloc, chip, app, groups, trial, cuts) {
-        Ok(found) => Some(has_lists(cuts, judged.1) && is_verdict(&found, &judged.2)),
+    match verify(alloc, chip, app, groups, trial, &blocks[0]) {
+        Ok(found) => Some(found),
         Err(_) => None,
     }
+}
+
+/// Whether the text's only lists are these, and that is found of them.
+fn is_found(blocks: &[Cuts], found: &CutVerdict, judged: &Judged) -> bool {
+    blocks.len() == 1 && has_lists(&blocks[0], judged.1) && is_verdict(found, &judged.2)
 }
 
 fn is_verdict(found: &CutVerdict, wanted: &Verdict) -> bool {

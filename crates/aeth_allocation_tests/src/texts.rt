@@ -24,6 +24,13 @@ pub(crate) enum AskedOfPlan {
     Spans(&'static [(u32, u32)]),
 }
 
+/// The text of a plan, and what is asked of it.
+#[derive(Clone, Copy)]
+struct PlanCase<'a> {
+    text: &'a [u8],
+    asked: &'a AskedOfPlan,
+}
+
 /// Whether the answer is right.
 pub(crate) fn is_plan_right(
     alloc: Global,
@@ -36,9 +43,12 @@ pub(crate) fn is_plan_right(
     requires app { IsAppOf chip.now app.now }
     requires groups { groups.now ≡ groups_of app.now }
 {
-    let text = text.as_bytes();
-    match read_plan(alloc, text, chip, app, groups) {
-        Ok(plan) => is_right_of(alloc, chip, app, groups, &plan, text, asked),
+    let case = PlanCase {
+        text: text.as_bytes(),
+        asked,
+    };
+    match read_plan(alloc, case.text, chip, app, groups) {
+        Ok(plan) => is_right_of(alloc, chip, app, groups, &plan, &case),
         Err(_) => None,
     }
 }
@@ -51,15 +61,14 @@ fn is_right_of(
     app: &App,
     groups: &Groups,
     plan: &Plan,
-    text: &[u8],
-    asked: &AskedOfPlan,
+    case: &PlanCase,
 ) -> Option<bool>
     requires app { IsAppOf chip.now app.now }
     requires groups { groups.now ≡ groups_of app.now }
     requires plan { IsPlanOf chip.now app.now groups.now plan.now }
 {
-    match asked {
-        AskedOfPlan::Text => is_text(alloc, chip, app, groups, plan, text),
+    match case.asked {
+        AskedOfPlan::Text => is_text(alloc, chip, app, groups, plan, case.text),
         AskedOfPlan::Made(slots, seats, grants) => {
             is_made(alloc, chip, app, plan.grants(), (*slots, *seats, *grants))
         }

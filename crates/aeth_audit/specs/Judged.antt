@@ -8,21 +8,13 @@ use Rattle.aeth_plan.specs.{Plan.PlanData, Design.IsDesign}
 use Rattle.aeth_trace.specs.declared.switches.SwitchRow.{SwitchRow}
 use Rattle.aeth_reconf.specs.Timeline.{sessions_at}
 use Rattle.aeth_report.specs.{Design.Design, Flows.Run, Flows.sessions_in, Sound.IsSound}
-use Rattle.aeth_accepted.specs.Inputs.{Inputs, design_on, run_of}
+use Rattle.aeth_accepted.specs.Inputs.{Inputs, design_on, inputs_with, run_of}
 use Rattle.aeth_audit.specs.{Reservations.Reservation, Tables.address_of}
 use Rattle.aeth_audit.specs.{declared.judge.Judge.Judge}
 
 -- The inputs of a run of a plan through switches, without words.
 abbrev pub quiet : ChipData → AppData → PlanData → List SwitchRow → Inputs
-quiet chip app plan switches = record {
-  chip = chip;
-  app = app;
-  plan = plan;
-  words = [];
-  pulls = [];
-  switches = switches;
-  cycles = 0;
-}
+quiet chip app plan switches = inputs_with chip app plan [] [] switches 0
 
 -- That run.
 abbrev pub run_on : ChipData → AppData → PlanData → List SwitchRow → Run

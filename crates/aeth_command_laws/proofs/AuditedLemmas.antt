@@ -3,7 +3,7 @@ use Rattle.std.proofs.Common.{◌≡◌, ◌∙◌, ℕ, List, [], Option, Some,
 use Rattle.std.proofs.Common.{subst, sym, codes, nat_lt}
 use Rattle.std.proofs.lemmas.List.{Elements.All-nil, Sorted.IsNonDecreasingBy-short}
 use Rattle.std.proofs.lemmas.Option.{same_Some}
-use Rattle.aeth_accepted.specs.Inputs.{AreAccepted, Inputs, design_on, run_of}
+use Rattle.aeth_accepted.specs.Inputs.{AreAccepted, Inputs, design_on, inputs_with, run_of}
 use Rattle.aeth_answers.specs.{Job.Job, Job.done, Status.done_status, Task.job_with}
 use Rattle.aeth_app.specs.AppFile.{app_of}
 use Rattle.aeth_audit.specs.{Audit.audit_of, Breaks.IsAuditOf, LinkLog.link_log_of}
@@ -42,15 +42,7 @@ module _ (content : List ℕ → Option (List ℕ)) (files : AuditFiles) (cycles
     (runs_tell : RunsTell) (log : LogFor) (told : IsLogTold content files cycles log) where
   -- The inputs of a run with these switches, without words.
   abbrev inputs : Inputs
-  inputs = record {
-    chip = log.design.chip;
-    app = log.design.app;
-    plan = log.plan;
-    words = [];
-    pulls = [];
-    switches = log.switches;
-    cycles = 0;
-  }
+  inputs = inputs_with log.design.chip log.design.app log.plan [] [] log.switches 0
 
   accepted : AreAccepted inputs
   accepted = record {

@@ -1,7 +1,7 @@
 -- What `chain` prints is the log of a chain whose words have landed when they are due.
 use Rattle.std.proofs.Common.{◌≡◌, ◌<◌, ℕ, List, [], Option, Some, length, sym, Ok, codes}
 use Rattle.std.proofs.lemmas.Option.{same_Some}
-use Rattle.aeth_accepted.specs.Inputs.{Inputs}
+use Rattle.aeth_accepted.specs.Inputs.{Inputs, inputs_with}
 use Rattle.aeth_answers.specs.{Job.Job, Status.done_status, Task.job_with}
 use Rattle.aeth_app.specs.App.{AppData}
 use Rattle.aeth_base.specs.declared.ids.UseId.{UseId}
@@ -59,15 +59,7 @@ chained tell runs_tell chains content files name names cycles asked are is finis
     file_kept content asked kept (codes "receivers") (receivers_of design.app) files.receivers _
     on_pulls in
     let shapes = shapes_in (tables_of design.chip design.app (groups_of design.app) plan u) items in
-    let inputs : Inputs = record {
-      chip = design.chip;
-      app = design.app;
-      plan = plan;
-      words = words;
-      pulls = pulls;
-      switches = [];
-      cycles = cycles;
-    } in
+    let inputs : Inputs = inputs_with design.chip design.app plan words pulls [] cycles in
     let tabled : AreTabled inputs u items shapes = record {
       design = planned.accepted;
       of_chip = given.of_chip;

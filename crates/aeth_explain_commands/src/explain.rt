@@ -44,8 +44,8 @@ pub fn refusals_of(alloc: Global, design: &Design) -> Result<Refusals, NoMemory>
     let _app_slots = design.app.slots();
     let Design { chip, app } = design;
     let groups = Groups::of(alloc, app)?;
-    let tries = Tries::of(alloc, chip, app, &groups)?;
     let far = Distances::of(alloc, chip)?;
+    let tries = Tries::of(alloc, chip, &far, app, &groups)?;
     Ok(Refusals { groups, far, tries })
 }
 

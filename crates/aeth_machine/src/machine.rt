@@ -1,6 +1,6 @@
 // Machines.
 ghost use Rattle.std.specs.Prelude.{◌≡◌, ◌≤◌, ◌<◌, ℕ, IfOk, length};
-ghost use Rattle.aeth_accepted.specs.Inputs.{AreAccepted, Inputs};
+ghost use Rattle.aeth_accepted.specs.Inputs.{AreAccepted, Inputs, inputs_with};
 ghost use Rattle.aeth_group.specs.Members.{groups_of};
 ghost use Rattle.aeth_report.specs.Log.{LogData};
 ghost use Rattle.aeth_report.specs.Regular.{IsRegular};
@@ -53,25 +53,11 @@ pub trait Machine: Drop {
         cycles: u32,
     ) -> Result<Self, NoMemory>
         requires groups { groups.now ≡ groups_of app.now }
-        requires accepted { AreAccepted (record {
-          chip = chip.now;
-          app = app.now;
-          plan = plan.now;
-          words = words.now;
-          pulls = receivers.now;
-          switches = switches.now;
-          cycles = cycles;
-        }) }
+        requires accepted { AreAccepted (inputs_with chip.now app.now plan.now words.now
+            receivers.now switches.now cycles) }
         requires some { 1 ≤ cycles }
-        ensures plays { IfOk result (λ machine. plays machine ≡ outcome (record {
-          chip = chip.now;
-          app = app.now;
-          plan = plan.now;
-          words = words.now;
-          pulls = receivers.now;
-          switches = switches.now;
-          cycles = cycles;
-        })) }
+        ensures plays { IfOk result (λ machine. plays machine ≡ outcome (inputs_with chip.now
+            app.now plan.now words.now receivers.now switches.now cycles)) }
         ensures left { IfOk result (λ machine. left machine ≡ cycles) }
         ensures count { IfOk result (λ machine. 0 < count machine) };
 

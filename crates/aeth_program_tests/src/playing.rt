@@ -80,14 +80,13 @@ fn is_run_busy(
     requires accepted { AreAccepted
         (inputs_of design.now run.now.planned.plan run.now.traces cycles) }
 {
+    let traces = run.traces.borrowed();
     let inputs = RunInputs::of(
         &design.chip,
         &design.app,
         &run.planned.groups,
         &run.planned.plan,
-        &run.traces.words,
-        &run.traces.receivers,
-        &run.traces.switches,
+        traces,
         cycles,
     );
     Ok(is_busy_by(alloc, &inputs, busy)?)

@@ -4,7 +4,7 @@ ghost use Rattle.std.specs.Prelude.{◌≡◌, ◌≤◌, ◌<◌, ◌+◌, ◌-
 ghost use Rattle.aeth_group.specs.Members.{groups_of};
 ghost use Rattle.aeth_components.specs.Turns.{flits_on};
 ghost use Rattle.aeth_report.specs.RunLog.{log_of};
-ghost use Rattle.aeth_accepted.specs.Inputs.{AreAccepted, Inputs, run_of};
+ghost use Rattle.aeth_accepted.specs.Inputs.{AreAccepted, Inputs, inputs_with, run_of};
 ghost use Rattle.aeth_running.specs.Idle.{IsNextBusyOf};
 ghost use Rattle.aeth_running.specs.Lossless.{LosesNothing};
 ghost use Rattle.aeth_running.specs.Network.{first_network, played, stepped};
@@ -14,7 +14,7 @@ ghost use Rattle.aeth_running.specs.Told.{told};
 ghost use Rattle.aeth_network.specs.Carried.{carried_in};
 ghost use Rattle.aeth_network.specs.Runs.{AreWiresOf, IsNetworkOf};
 
-use aeth_accepted::RunInputs;
+use aeth_accepted::{BorrowedTraces, RunInputs};
 use aeth_app::App;
 use aeth_base::{NoMemory, Steps};
 use aeth_chip::Chip;
@@ -61,35 +61,19 @@ impl Network {
         cycles: u32,
     ) -> Result<Network, NoMemory>
         requires groups { groups.now ≡ groups_of app.now }
-        requires accepted { AreAccepted (record {
-          chip = chip.now;
-          app = app.now;
-          plan = plan.now;
-          words = words.now;
-          pulls = receivers.now;
-          switches = switches.now;
-          cycles = cycles;
-        }) }
-        ensures first { IfOk result (λ network. network ≡ first_network (record {
-          chip = chip.now;
-          app = app.now;
-          plan = plan.now;
-          words = words.now;
-          pulls = receivers.now;
-          switches = switches.now;
-          cycles = cycles;
-        }) ByHeaders) }
-        ensures run { IfOk result (IsNetworkOf (record {
-          chip = chip.now;
-          app = app.now;
-          plan = plan.now;
-          words = words.now;
-          pulls = receivers.now;
-          switches = switches.now;
-          cycles = cycles;
-        })) }
+        requires accepted { AreAccepted (inputs_with chip.now app.now plan.now words.now
+            receivers.now switches.now cycles) }
+        ensures first { IfOk result (λ network. network ≡ first_network (inputs_with chip.now
+            app.now plan.now words.now receivers.now switches.now cycles) ByHeaders) }
+        ensures run { IfOk result (IsNetworkOf (inputs_with chip.now app.now plan.now words.now
+            receivers.now switches.now cycles)) }
     {
-        let inputs = RunInputs::of(chip, app, groups, plan, words, receivers, switches, cycles);
+        let traces = BorrowedTraces {
+            words,
+            receivers,
+            switches,
+        };
+        let inputs = RunInputs::of(chip, app, groups, plan, traces, cycles);
         let schedule = schedule_of(alloc, &inputs)?;
         let routed = RoutedNetwork::new(alloc, &inputs, schedule)?;
         Ok(Network { routed })

@@ -3,7 +3,7 @@
 ghost use Rattle.std.specs.Prelude.{◌≡◌, ◌<◌, ◌-◌, IfOk, length};
 ghost use Rattle.aeth_group.specs.Members.{groups_of};
 ghost use Rattle.aeth_report.specs.RunLog.{log_of};
-ghost use Rattle.aeth_accepted.specs.Inputs.{AreAccepted, Inputs, run_of};
+ghost use Rattle.aeth_accepted.specs.Inputs.{AreAccepted, Inputs, inputs_with, run_of};
 ghost use Rattle.aeth_running.specs.Lossless.{LosesNothing};
 ghost use Rattle.aeth_running.specs.Network.{first_network, played, stepped};
 ghost use Rattle.aeth_running.specs.Told.{told};
@@ -12,7 +12,7 @@ ghost use Rattle.aeth_table_network.specs.Tables.{tables_of};
 
 use crate::laws;
 use crate::rows::tables_of;
-use aeth_accepted::RunInputs;
+use aeth_accepted::{BorrowedTraces, RunInputs};
 use aeth_app::App;
 use aeth_base::NoMemory;
 use aeth_chip::Chip;
@@ -59,35 +59,20 @@ impl TableNetwork {
         cycles: u32,
     ) -> Result<TableNetwork, NoMemory>
         requires groups { groups.now ≡ groups_of app.now }
-        requires accepted { AreAccepted (record {
-          chip = chip.now;
-          app = app.now;
-          plan = plan.now;
-          words = words.now;
-          pulls = receivers.now;
-          switches = switches.now;
-          cycles = cycles;
-        }) }
-        ensures first { IfOk result (λ network. let inputs : Inputs = record {
-          chip = chip.now;
-          app = app.now;
-          plan = plan.now;
-          words = words.now;
-          pulls = receivers.now;
-          switches = switches.now;
-          cycles = cycles;
-        } in network ≡ first_network inputs (tables_of inputs)) }
-        ensures run { IfOk result (IsNetworkOf (record {
-          chip = chip.now;
-          app = app.now;
-          plan = plan.now;
-          words = words.now;
-          pulls = receivers.now;
-          switches = switches.now;
-          cycles = cycles;
-        })) }
+        requires accepted { AreAccepted (inputs_with chip.now app.now plan.now words.now
+            receivers.now switches.now cycles) }
+        ensures first { IfOk result (λ network. let inputs : Inputs = inputs_with chip.now app.now
+            plan.now words.now receivers.now switches.now cycles in
+            network ≡ first_network inputs (tables_of inputs)) }
+        ensures run { IfOk result (IsNetworkOf (inputs_with chip.now app.now plan.now words.now
+            receivers.now switches.now cycles)) }
     {
-        let inputs = RunInputs::of(chip, app, groups, plan, words, receivers, switches, cycles);
+        let traces = BorrowedTraces {
+            words,
+            receivers,
+            switches,
+        };
+        let inputs = RunInputs::of(chip, app, groups, plan, traces, cycles);
         inputs.are_accepted();
         laws::tables_route();
         let schedule = schedule_of(alloc, &inputs)?;

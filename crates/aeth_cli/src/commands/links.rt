@@ -77,14 +77,13 @@ fn carried(alloc: Global, one: &TracedDesign, cycles: u32) -> Result<Answer, NoM
         ≡ links_job (traced_inputs (seen_traced one.now) cycles)) }
 {
     let TracedDesign { design, run } = one;
+    let traces = run.traces.borrowed();
     let inputs = RunInputs::of(
         &design.chip,
         &design.app,
         &run.planned.groups,
         &run.planned.plan,
-        &run.traces.words,
-        &run.traces.receivers,
-        &run.traces.switches,
+        traces,
         cycles,
     );
     Ok(Answer::done(links_text(alloc, &inputs)?))

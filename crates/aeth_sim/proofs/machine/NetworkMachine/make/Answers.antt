@@ -3,7 +3,7 @@ use Rattle.std.proofs.lemmas.Result.{IfOk-weaker}
 use Rattle.aeth_running.proofs.RouterTables.{headers-route}
 use Rattle.aeth_running.specs.{Network.NetworkState, Network.first_network, Network.played}
 use Rattle.aeth_running.specs.{Routing.ByHeaders, Told.told}
-use Rattle.aeth_accepted.specs.Inputs.{Inputs, run_of}
+use Rattle.aeth_accepted.specs.Inputs.{inputs_with, run_of}
 use Rattle.aeth_report.specs.RunLog.{log_of}
 use Rattle.aeth_network.proofs.Playing.{first-count, first-left, first-plays}
 use Rattle.aeth_sim.proofs.machine.NetworkMachine.make.Goals as goal
@@ -11,15 +11,8 @@ use Rattle.aeth_sim.proofs.machine.NetworkMachine.make.Goals as goal
 -- The log is that of the run.
 pub returns-clause-plays : goal.returns-clause-plays
 returns-clause-plays c =
-    let inputs : Inputs = record {
-      chip = c.args.chip.now;
-      app = c.args.app.now;
-      plan = c.args.plan.now;
-      words = c.args.words.now;
-      pulls = c.args.receivers.now;
-      switches = c.args.switches.now;
-      cycles = c.args.cycles;
-    } in
+    let inputs = inputs_with c.args.chip.now c.args.app.now c.args.plan.now c.args.words.now
+        c.args.receivers.now c.args.switches.now c.args.cycles in
     IfOk-weaker c.new.result (λ (network : NetworkState). network ≡ first_network inputs ByHeaders)
     (λ (network : NetworkState). told (played (network.log.cycles - network.time) network)
     ≡ log_of (run_of inputs))
@@ -29,15 +22,8 @@ returns-clause-plays c =
 -- All cycles are left.
 pub returns-clause-left : goal.returns-clause-left
 returns-clause-left c =
-    let inputs : Inputs = record {
-      chip = c.args.chip.now;
-      app = c.args.app.now;
-      plan = c.args.plan.now;
-      words = c.args.words.now;
-      pulls = c.args.receivers.now;
-      switches = c.args.switches.now;
-      cycles = c.args.cycles;
-    } in
+    let inputs = inputs_with c.args.chip.now c.args.app.now c.args.plan.now c.args.words.now
+        c.args.receivers.now c.args.switches.now c.args.cycles in
     IfOk-weaker c.new.result (λ (network : NetworkState). network ≡ first_network inputs ByHeaders)
     (λ (network : NetworkState). network.log.cycles - network.time ≡ c.args.cycles)
     (λ network is. first-left inputs ByHeaders network is) c.new.ensures.first
@@ -45,15 +31,8 @@ returns-clause-left c =
 -- There are components.
 pub returns-clause-count : goal.returns-clause-count
 returns-clause-count c =
-    let inputs : Inputs = record {
-      chip = c.args.chip.now;
-      app = c.args.app.now;
-      plan = c.args.plan.now;
-      words = c.args.words.now;
-      pulls = c.args.receivers.now;
-      switches = c.args.switches.now;
-      cycles = c.args.cycles;
-    } in
+    let inputs = inputs_with c.args.chip.now c.args.app.now c.args.plan.now c.args.words.now
+        c.args.receivers.now c.args.switches.now c.args.cycles in
     IfOk-weaker c.new.result (λ (network : NetworkState). network ≡ first_network inputs ByHeaders)
     (λ (network : NetworkState). 0 < length network.components.parts)
     (λ network is. first-count inputs c.requires.accepted ByHeaders network is) c.new.ensures.first
