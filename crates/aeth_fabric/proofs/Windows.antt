@@ -56,121 +56,121 @@ module _ (run : Run) where
 
   module _ (sound : IsSound run) (may : AreWritten) (c : ℕ) (p : ChannelSession)
       (is : IsListedAt run c p) where
-      of : IsStayOf run.design.groups p.channel.conn.0 p.stay
-      of = stays_of-is run.design.groups p.channel.conn.0 run.switches p.stay sound.known
-          (at-Contains (stays_in run p.channel.conn.0) (place_at run c) p.stay is.stay_at)
+    of : IsStayOf run.design.groups p.channel.conn.0 p.stay
+    of = stays_of-is run.design.groups p.channel.conn.0 run.switches p.stay sound.known
+        (at-Contains (stays_in run p.channel.conn.0) (place_at run c) p.stay is.stay_at)
 
-      ordered_route : IsInOrder run.design.groups (row_at run.design) run.spans p.channel p.stay
-      ordered_route = in_order run.design.groups (row_at run.design) run.spans run.switches may p.channel
-          (place_at run c) p.stay (stay c p is)
+    ordered_route : IsInOrder run.design.groups (row_at run.design) run.spans p.channel p.stay
+    ordered_route = in_order run.design.groups (row_at run.design) run.spans run.switches may p.channel
+        (place_at run c) p.stay (stay c p is)
 
-      -- It goes before it stops, and stops by its finish.
-      stops : go_of run.spans p.stay.opening ≤ (flow_in run p).server.stop
-      stops =
-          let go = go_of run.spans p.stay.opening in
-          let cases : (o : Option Switch)
-          → IfSome o (λ switch. go ≤ (close_by run.spans switch).until) → go ≤ stop_by p o = elim [
-            | None ↦ λ none. le-max_right run.cycles go
-            | Some switch ↦ λ until. omega (arith, until)
-          ] in
-          cases p.stay.closing ordered_route.then_until
+    -- It goes before it stops, and stops by its finish.
+    stops : go_of run.spans p.stay.opening ≤ (flow_in run p).server.stop
+    stops =
+        let go = go_of run.spans p.stay.opening in
+        let cases : (o : Option Switch)
+        → IfSome o (λ switch. go ≤ (close_by run.spans switch).until) → go ≤ stop_by p o = elim [
+          | None ↦ λ none. le-max_right run.cycles go
+          | Some switch ↦ λ until. omega (arith, until)
+        ] in
+        cases p.stay.closing ordered_route.then_until
 
-      -- What it has sent by its stop has landed by its finish.
-      drains : (flow_in run p).server.stop + path_delay run.design.chip.links (flow_in run p).path
-          ≤ (flow_in run p).server.finish
-      drains =
-          let delay_in : ℕ → ℕ =
-          λ group. path_delay run.design.chip.links (grant_at run.design p.channel group).path in
-          let few = (sound.granted.paths of.use_case p.channel of.has).few in
-          let group = ap delay_in of.in_group in
-          let cases : (o : Option Switch)
-          → IfSome o (IsClosedBy run.design.groups p.channel.conn.0 p.stay.group)
-          → stop_by p o + delay_in p.stay.group ≤ fin_by p o = elim [
-            | None ↦ λ closed. omega (arith, few, group)
-            | Some switch ↦ λ closed.
-                let above =
-                sound.lags switch.leaves switch.row.to.0 p.channel closed.known closed.is_closed in
-                let same = ap delay_in closed.in_group in
-                omega (arith, above, same)
-          ] in
-          cases p.stay.closing of.closed
+    -- What it has sent by its stop has landed by its finish.
+    drains : (flow_in run p).server.stop + path_delay run.design.chip.links (flow_in run p).path
+        ≤ (flow_in run p).server.finish
+    drains =
+        let delay_in : ℕ → ℕ =
+        λ group. path_delay run.design.chip.links (grant_at run.design p.channel group).path in
+        let few = (sound.granted.paths of.use_case p.channel of.has).few in
+        let group = ap delay_in of.in_group in
+        let cases : (o : Option Switch)
+        → IfSome o (IsClosedBy run.design.groups p.channel.conn.0 p.stay.group)
+        → stop_by p o + delay_in p.stay.group ≤ fin_by p o = elim [
+          | None ↦ λ closed. omega (arith, few, group)
+          | Some switch ↦ λ closed.
+              let above =
+              sound.lags switch.leaves switch.row.to.0 p.channel closed.known closed.is_closed in
+              let same = ap delay_in closed.in_group in
+              omega (arith, above, same)
+        ] in
+        cases p.stay.closing of.closed
 
-      finishes : (flow_in run p).server.stop ≤ (flow_in run p).server.finish
-      finishes = let all = drains in omega (arith, all)
+    finishes : (flow_in run p).server.stop ≤ (flow_in run p).server.finish
+    finishes = let all = drains in omega (arith, all)
 
-      -- Its route is cleared once it has finished.
-      frees : (flow_in run p).server.finish < freed_in run p
-      frees =
+    -- Its route is cleared once it has finished.
+    frees : (flow_in run p).server.finish < freed_in run p
+    frees =
+        let cases : (o : Option Switch) → IfSome o (λ switch. (close_by run.spans switch).fin
+        < freed_of run.design.groups (row_at run.design) run.spans p.stay.group p.channel switch)
+        → p.stay.closing ≡ o → fin_by p o < freed_by run p o = elim [
+          | None ↦ λ none closing.
+              let same : (flow_in run p).server.finish ≡ fin_by p None = ap (fin_by p) closing in
+              omega (arith, same)
+          | Some switch ↦ λ free closing. free
+        ] in
+        cases p.stay.closing ordered_route.then_free refl
+
+    -- A slot of its own.
+    module _ (x : ℕ)
+        (own : list_any (λ o. x == o) (flow_in run p).server.shape.slots ≡ true) where
+      at_slot : slice_get (row_in run p).slots.slots (slot_at run p x) ≡ Some x
+      at_slot = slot_place (row_in run p).slots.slots x own
+
+      ordered_slot : IsSlotInOrder run.design.groups (row_at run.design) run.spans p.channel p.stay
+          (slot_at run p x)
+      ordered_slot = slots_in_order run.design.groups (row_at run.design) run.spans run.switches may
+          p.channel (place_at run c) p.stay (stay c p is) (slot_at run p x)
+          (slice_get_within (row_in run p).slots.slots (slot_at run p x) x at_slot)
+
+      clears : (flow_in run p).server.finish < slot_freed_in run p x
+      clears =
+          let k = slot_at run p x in
           let cases : (o : Option Switch) → IfSome o (λ switch. (close_by run.spans switch).fin
-          < freed_of run.design.groups (row_at run.design) run.spans p.stay.group p.channel switch)
-          → p.stay.closing ≡ o → fin_by p o < freed_by run p o = elim [
+          < cleared_of run.design.groups (row_at run.design) run.spans p.channel switch k)
+          → p.stay.closing ≡ o → fin_by p o < cleared_by run p k o = elim [
             | None ↦ λ none closing.
                 let same : (flow_in run p).server.finish ≡ fin_by p None = ap (fin_by p) closing in
                 omega (arith, same)
-            | Some switch ↦ λ free closing. free
+            | Some switch ↦ λ clear closing. clear
           ] in
-          cases p.stay.closing ordered_route.then_free refl
+          cases p.stay.closing ordered_slot.then_clear refl
 
-      -- A slot of its own.
-      module _ (x : ℕ)
-          (own : list_any (λ o. x == o) (flow_in run p).server.shape.slots ≡ true) where
-        at_slot : slice_get (row_in run p).slots.slots (slot_at run p x) ≡ Some x
-        at_slot = slot_place (row_in run p).slots.slots x own
+      clears_first : slot_freed_in run p x ≤ freed_in run p
+      clears_first =
+          let k = slot_at run p x in
+          let cases : (o : Option Switch) → IfSome o (λ switch.
+          cleared_of run.design.groups (row_at run.design) run.spans p.channel switch k
+          < freed_of run.design.groups (row_at run.design) run.spans p.stay.group p.channel switch)
+          → cleared_by run p k o ≤ freed_by run p o = elim [
+            | None ↦ λ none. omega arith
+            | Some switch ↦ λ free. omega (arith, free)
+          ] in
+          cases p.stay.closing ordered_slot.then_free
 
-        ordered_slot : IsSlotInOrder run.design.groups (row_at run.design) run.spans p.channel p.stay
-            (slot_at run p x)
-        ordered_slot = slots_in_order run.design.groups (row_at run.design) run.spans run.switches may
-            p.channel (place_at run c) p.stay (stay c p is) (slot_at run p x)
-            (slice_get_within (row_in run p).slots.slots (slot_at run p x) x at_slot)
-
-        clears : (flow_in run p).server.finish < slot_freed_in run p x
-        clears =
-            let k = slot_at run p x in
-            let cases : (o : Option Switch) → IfSome o (λ switch. (close_by run.spans switch).fin
-            < cleared_of run.design.groups (row_at run.design) run.spans p.channel switch k)
-            → p.stay.closing ≡ o → fin_by p o < cleared_by run p k o = elim [
-              | None ↦ λ none closing.
-                  let same : (flow_in run p).server.finish ≡ fin_by p None = ap (fin_by p) closing in
-                  omega (arith, same)
-              | Some switch ↦ λ clear closing. clear
-            ] in
-            cases p.stay.closing ordered_slot.then_clear refl
-
-        clears_first : slot_freed_in run p x ≤ freed_in run p
-        clears_first =
-            let k = slot_at run p x in
-            let cases : (o : Option Switch) → IfSome o (λ switch.
-            cleared_of run.design.groups (row_at run.design) run.spans p.channel switch k
-            < freed_of run.design.groups (row_at run.design) run.spans p.stay.group p.channel switch)
-            → cleared_by run p k o ≤ freed_by run p o = elim [
-              | None ↦ λ none. omega arith
-              | Some switch ↦ λ free. omega (arith, free)
-            ] in
-            cases p.stay.closing ordered_slot.then_free
-
-      -- Its queue is its own from the start, or from the finish of the session before it.
-      handed_on : IsHandedOn run.spans (stays_in run p.channel.conn.0) (place_at run c) → (d : ℕ)
-          × (d < length (session_list run))
-          × (suc (flow_in run (listed_at run d)).server.finish
-          ≡ (passage_of run (place_at run c) p).since)
-          × ((row_in run (listed_at run d)).ni.0 ≡ (row_in run p).ni.0)
-          × ((row_in run (listed_at run d)).queue ≡ (row_in run p).queue)
-      handed_on handed =
-          let found = numbered run p.channel handed.before handed.stay is.known handed.at in
-          let d = found.number in
-          let same = found.is in
-          let q : ChannelSession = record { channel = p.channel; stay = handed.stay } in
-          let finish : (flow_in run (listed_at run d)).server.finish
-          ≡ (close_by run.spans handed.switch).fin =
-          ap (λ (z : ChannelSession). (flow_in run z).server.finish) same
-          ∙ ap (fin_by q) handed.closing in
-          let since = handed.since in (
-            d,
-            found.known,
-            omega (arith, finish, since),
-            ap (λ (z : ChannelSession). (row_in run z).ni.0) same,
-            ap (λ (z : ChannelSession). (row_in run z).queue) same,
-          )
+    -- Its queue is its own from the start, or from the finish of the session before it.
+    handed_on : IsHandedOn run.spans (stays_in run p.channel.conn.0) (place_at run c) → (d : ℕ)
+        × (d < length (session_list run))
+        × (suc (flow_in run (listed_at run d)).server.finish
+        ≡ (passage_of run (place_at run c) p).since)
+        × ((row_in run (listed_at run d)).ni.0 ≡ (row_in run p).ni.0)
+        × ((row_in run (listed_at run d)).queue ≡ (row_in run p).queue)
+    handed_on handed =
+        let found = numbered run p.channel handed.before handed.stay is.known handed.at in
+        let d = found.number in
+        let same = found.is in
+        let q : ChannelSession = record { channel = p.channel; stay = handed.stay } in
+        let finish : (flow_in run (listed_at run d)).server.finish
+        ≡ (close_by run.spans handed.switch).fin =
+        ap (λ (z : ChannelSession). (flow_in run z).server.finish) same
+        ∙ ap (fin_by q) handed.closing in
+        let since = handed.since in (
+          d,
+          found.known,
+          omega (arith, finish, since),
+          ap (λ (z : ChannelSession). (row_in run z).ni.0) same,
+          ap (λ (z : ChannelSession). (row_in run z).queue) same,
+        )
 
   -- What a session has sent by its stop has landed by its finish.
   pub drained : IsSound run → AreWritten → (c : ℕ) → c < length (session_list run)

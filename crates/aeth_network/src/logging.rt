@@ -64,11 +64,7 @@ fn counts_of(alloc: Global, app: &App, goings: &Goings) -> Result<Vec<u32>, NoMe
 }
 
 // The channels of an application, without sessions, and with room for so many.
-fn first_channels(
-    alloc: Global,
-    app: &App,
-    counts: &[u32],
-) -> Result<Vec<ChannelLog>, NoMemory>
+fn first_channels(alloc: Global, app: &App, counts: &[u32]) -> Result<Vec<ChannelLog>, NoMemory>
     requires { length counts.now ≡ 2 * length app.now.connections }
     ensures { IfOk result (λ channels. channels.items
         ≡ map (channel_from [] 0 []) (channels_of (length app.now.connections))) }

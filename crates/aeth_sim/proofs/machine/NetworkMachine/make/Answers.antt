@@ -12,7 +12,7 @@ use Rattle.aeth_sim.proofs.machine.NetworkMachine.make.Goals as goal
 pub returns-clause-plays : goal.returns-clause-plays
 returns-clause-plays c =
     let inputs = inputs_with c.args.chip.now c.args.app.now c.args.plan.now c.args.words.now
-        c.args.receivers.now c.args.switches.now c.args.cycles in
+    c.args.receivers.now c.args.switches.now c.args.cycles in
     IfOk-weaker c.new.result (λ (network : NetworkState). network ≡ first_network inputs ByHeaders)
     (λ (network : NetworkState). told (played (network.log.cycles - network.time) network)
     ≡ log_of (run_of inputs))
@@ -23,7 +23,7 @@ returns-clause-plays c =
 pub returns-clause-left : goal.returns-clause-left
 returns-clause-left c =
     let inputs = inputs_with c.args.chip.now c.args.app.now c.args.plan.now c.args.words.now
-        c.args.receivers.now c.args.switches.now c.args.cycles in
+    c.args.receivers.now c.args.switches.now c.args.cycles in
     IfOk-weaker c.new.result (λ (network : NetworkState). network ≡ first_network inputs ByHeaders)
     (λ (network : NetworkState). network.log.cycles - network.time ≡ c.args.cycles)
     (λ network is. first-left inputs ByHeaders network is) c.new.ensures.first
@@ -32,7 +32,7 @@ returns-clause-left c =
 pub returns-clause-count : goal.returns-clause-count
 returns-clause-count c =
     let inputs = inputs_with c.args.chip.now c.args.app.now c.args.plan.now c.args.words.now
-        c.args.receivers.now c.args.switches.now c.args.cycles in
+    c.args.receivers.now c.args.switches.now c.args.cycles in
     IfOk-weaker c.new.result (λ (network : NetworkState). network ≡ first_network inputs ByHeaders)
     (λ (network : NetworkState). 0 < length network.components.parts)
     (λ network is. first-count inputs c.requires.accepted ByHeaders network is) c.new.ensures.first
