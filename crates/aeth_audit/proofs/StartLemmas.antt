@@ -1,7 +1,7 @@
 -- Laws of the numbers of rows before each cycle.
-use Rattle.std.proofs.Common.{◌≡◌, ◌∙◌, ◌+◌, ◌<◌, ◌≤◌, ℕ, true, false, List, length}
-use Rattle.std.proofs.Common.{slice_get, get_or, Some, sym, ap, subst, inl, inr, arith, nat_lt}
-use Rattle.std.proofs.Common.{◌==◌, ◌||◌, ◌&&◌}
+use Rattle.std.proofs.Common.{◌≡◌, ◌∙◌, ◌+◌, ◌<◌, ◌≤◌, ℕ, true, false, List, length, slice_get}
+use Rattle.std.proofs.Common.{get_or, Some, sym, ap, subst, inl, inr, arith, nat_lt, ◌==◌, ◌||◌}
+use Rattle.std.proofs.Common.{◌&&◌}
 use Rattle.std.proofs.lemmas.Bool.{cases_Bool, cases_lt, Decides.nat_tests}
 use Rattle.std.proofs.lemmas.List.{get_or_default}
 use Rattle.std.specs.List.{AllWithin, Sorted.IsPartitionPoint}

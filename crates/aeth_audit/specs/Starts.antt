@@ -8,8 +8,8 @@
 use Rattle.std.proofs.Common.{◌≡◌, ◌⊎◌, ◌<◌, ◌≤◌, ℕ, List, Some, length, slice_get}
 use Rattle.std.specs.List.Sorted.{IsPartitionPoint}
 use Rattle.aeth_text.specs.Order.{Rises}
-use Rattle.aeth_audit.specs.{Limits.max_link_rows, LinkLog.is_later}
-use Rattle.aeth_audit.specs.declared.{row.LinkRow.LinkRow, starts.IndexedRows.IndexedRows}
+use Rattle.aeth_audit.specs.{Limits.max_link_rows, LinkLog.is_later, declared.row.LinkRow.LinkRow}
+use Rattle.aeth_audit.specs.{declared.starts.IndexedRows.IndexedRows}
 
 -- So many rows come before a cycle: the first ones.
 pub record IsStart (rows : List LinkRow) (cycle count : ℕ) : Type 0 where

@@ -2,10 +2,9 @@
 use Rattle.std.proofs.Common.{◌≡◌, ◌∙◌, ◌+◌, ◌-◌, ◌<◌, ◌≤◌, ◌++◌, ℕ, zero, suc, true, cond, List}
 use Rattle.std.proofs.Common.{[], ◌∷◌, Contains, length, take, Option, Some, slice_get, sym, refl}
 use Rattle.std.proofs.Common.{ap, subst, arith, None, inl, inr, sum_by, append-nil, take_all}
-use Rattle.std.proofs.lemmas.Bool.{and_parts, cond-true, false≢true, or_right}
-use Rattle.std.proofs.lemmas.Grind.{flat_map-append}
-use Rattle.std.proofs.lemmas.List.{length-map, Concat.flat_map-cons}
-use Rattle.std.proofs.lemmas.Option.{none-some, slice_get_cases, slice_get_within}
+use Rattle.std.proofs.lemmas.{Bool.and_parts, Bool.cond-true, Bool.false≢true, Bool.or_right}
+use Rattle.std.proofs.lemmas.{Grind.flat_map-append, List.length-map, List.Concat.flat_map-cons}
+use Rattle.std.proofs.lemmas.{Option.none-some, Option.slice_get_cases, Option.slice_get_within}
 use Rattle.std.specs.List.{flat_map}
 use Rattle.aeth_base.specs.declared.ids.LinkId.{LinkId}
 use Rattle.aeth_chip.specs.declared.node.Link.{Link}

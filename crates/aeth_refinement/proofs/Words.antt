@@ -1,8 +1,8 @@
 -- Laws of stretches of values.
-use Rattle.std.proofs.Common.{◌≡◌, ◌≤◌, ◌∙◌, ℕ, ◌+◌, ◌-◌, List, ◌++◌, length, take, drop}
-use Rattle.std.proofs.Common.{sym, ap, arith}
+use Rattle.std.proofs.Common.{◌≡◌, ◌≤◌, ◌∙◌, ℕ, ◌+◌, ◌-◌, List, ◌++◌, length, take, drop, sym, ap}
+use Rattle.std.proofs.Common.{arith, drop-drop, length-drop, length-take, take-take}
 use Rattle.std.proofs.Math.Seq.{take-add}
-use Rattle.std.proofs.lemmas.List.{drop-drop, drop-take, length-drop, length-take, take-take}
+use Rattle.std.proofs.lemmas.List.{drop-take}
 use Rattle.aeth_refinement.specs.Carried.{words_from}
 
 -- So many values are there.

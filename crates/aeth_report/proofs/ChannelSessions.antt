@@ -2,8 +2,7 @@
 use Rattle.std.proofs.Common.{◌≡◌, ◌≤◌, ◌<◌, ◌+◌, ◌++◌, ◌∙◌, ℕ, zero, suc, Bool, List, [], ◌∷◌}
 use Rattle.std.proofs.Common.{Option, Some, None, ap, arith, filter, inl, inr, map, refl, sym, ◌==◌}
 use Rattle.std.proofs.Common.{flat_map, eq-eqb, eqb-true, ne_eqb}
-use Rattle.std.proofs.lemmas.Bool.{cases_Bool, cases_eq}
-use Rattle.std.proofs.lemmas.List.{Elements.filter-append}
+use Rattle.std.proofs.lemmas.{Bool.cases_Bool, Bool.cases_eq, List.Elements.filter-append}
 use Rattle.std.specs.List.{range_with_len}
 use Rattle.aeth_base.specs.declared.ids.Channel.{Channel}
 use Rattle.aeth_base.specs.declared.ids.Side.{Side, TheVariants.Back, TheVariants.Fwd}
@@ -12,9 +11,8 @@ use Rattle.aeth_group.specs.Members.{GroupsData, has_at}
 use Rattle.aeth_trace.specs.declared.switches.SwitchRow.{SwitchRow}
 use Rattle.aeth_report.specs.Flows.{Run}
 use Rattle.aeth_report.specs.Sessions.{Stay, Switch, opens, stay_with, stays_behind, stays_of}
-use Rattle.aeth_report.specs.SessionList.{ConnectionStay, both_of, entered_behind}
-use Rattle.aeth_report.specs.SessionList.{entered_with, entered_from, is_of, is_on, session_list}
-use Rattle.aeth_report.specs.SessionList.{stay_by}
+use Rattle.aeth_report.specs.SessionList.{ConnectionStay, both_of, entered_behind, entered_with}
+use Rattle.aeth_report.specs.SessionList.{entered_from, is_of, is_on, session_list, stay_by}
 use Rattle.aeth_report.proofs.Stays.{switch_of}
 
 -- A number stands once in a range.

@@ -8,9 +8,8 @@ use Rattle.std.proofs.Common.{ℕ, List, [], map}
 use Rattle.std.specs.List.{slice_index_or}
 use Rattle.aeth_base.specs.declared.ids.Side.TheVariants.{Fwd}
 use Rattle.aeth_components.specs.declared.lane.ChannelEnd.{ChannelEnd}
-use Rattle.aeth_schedule.specs.Lines.{end_of, lines_at}
-use Rattle.aeth_schedule.specs.declared.going.{Going.Going, GoingByLine.GoingByLine}
-use Rattle.aeth_schedule.specs.declared.lines.Line.{Line}
+use Rattle.aeth_schedule.specs.{Lines.end_of, Lines.lines_at, declared.going.Going.Going}
+use Rattle.aeth_schedule.specs.{declared.going.GoingByLine.GoingByLine, declared.lines.Line.Line}
 
 -- What a place has that is past all lines.
 abbrev pub no_line : Line

@@ -1,6 +1,6 @@
 -- The tables of accepted inputs are such as routers need, and those that are made of a list.
-use Rattle.std.proofs.Common.{◌≡◌, ◌∙◌, ◌<◌, ◌==◌, ℕ, All, Contains, IsTrue, List, [], ◌∷◌, arith, length, map, refl}
-use Rattle.std.proofs.Common.{subst, sym, eq-eqb}
+use Rattle.std.proofs.Common.{◌≡◌, ◌∙◌, ◌<◌, ◌==◌, ℕ, All, Contains, IsTrue, List, [], ◌∷◌, arith}
+use Rattle.std.proofs.Common.{length, map, refl, subst, sym, eq-eqb}
 use Rattle.std.proofs.lemmas.List.Elements.{All-head, All-map, All-tail}
 use Rattle.std.proofs.lemmas.List.FromFn.{get_or-map-range_with_len}
 use Rattle.aeth_base.{proofs.Members.Contains-slice_get, specs.declared.ids.RouterId.RouterId}
@@ -21,8 +21,7 @@ use Rattle.aeth_schedule.specs.{Switching.later_switches, Windows.Writes}
 use Rattle.aeth_network.proofs.Enterings.{first-all, later-all}
 use Rattle.aeth_network.specs.Routes.{entered_by, entering_of, first_use, routing_by, rows_in}
 use Rattle.aeth_network.specs.declared.tables.EnteredUse.{EnteredUse}
-use Rattle.aeth_table_network.specs.Tables.{entered_rows, rows_if_entered, rows_of_use}
-use Rattle.aeth_table_network.specs.Tables.{tables_of}
+use Rattle.aeth_table_network.specs.Tables.{entered_rows, rows_if_entered, rows_of_use, tables_of}
 use Rattle.aeth_table_network.proofs.InForce.{over-rising}
 
 module _ (inputs : Inputs) (accepted : AreAccepted inputs)

@@ -1,11 +1,10 @@
-use Rattle.std.proofs.Common.{◌≡◌, ◌<◌, ◌++◌, ◌∷◌, ◌∙◌, [], List, ap, arith, length, map, rules, subst, take}
-use Rattle.std.proofs.lemmas.List.{length-append, length-map, length-take}
-use Rattle.std.proofs.lemmas.{List.get_or_default, Option.get_or_from_slice_get}
+use Rattle.std.proofs.Common.{◌≡◌, ◌<◌, ◌++◌, ◌∷◌, ◌∙◌, [], List, ap, arith, length, map, rules}
+use Rattle.std.proofs.Common.{subst, take, length-append, length-take}
+use Rattle.std.proofs.lemmas.{List.length-map, List.get_or_default, Option.get_or_from_slice_get}
 use Rattle.std.specs.List.{slice_index_or}
 use Rattle.aeth_trace.specs.Channels.{channel_number}
 use Rattle.aeth_components.specs.declared.lane.Lane.{Lane}
-use Rattle.aeth_schedule.proofs.Places.{map-take-more}
-use Rattle.aeth_schedule.specs.declared.going.Going.{Going}
+use Rattle.aeth_schedule.{proofs.Places.map-take-more, specs.declared.going.Going.Going}
 use Rattle.aeth_stimuli.specs.Loaded.{no_lane}
 use Rattle.aeth_network.proofs.giving.note.Goals as goal
 

@@ -1,9 +1,8 @@
-use Rattle.std.proofs.Common.{◌≡◌, ◌∙◌, ◌<◌, List, ap, arith, fold, get_or, length, subst, sym, take}
-use Rattle.std.proofs.lemmas.List.Sums.{fold_more}
-use Rattle.std.proofs.lemmas.Option.{get_or_from_slice_get}
+use Rattle.std.proofs.Common.{◌≡◌, ◌∙◌, ◌<◌, List, ap, arith, fold, get_or, length, subst, sym}
+use Rattle.std.proofs.Common.{take}
+use Rattle.std.proofs.lemmas.{List.Sums.fold_more, Option.get_or_from_slice_get}
 use Rattle.aeth_trace.specs.Channels.{channel_number}
-use Rattle.aeth_components.specs.{Components.ComponentsState, Lanes.IsLane}
-use Rattle.aeth_components.specs.declared.lane.Lane.{Lane}
+use Rattle.aeth_components.specs.{Components.ComponentsState, Lanes.IsLane, declared.lane.Lane.Lane}
 use Rattle.aeth_running.specs.Network.{gone_with, until_with}
 use Rattle.aeth_schedule.specs.declared.going.Going.{Going}
 use Rattle.aeth_network.proofs.LaneCounts.{lanes-gone, length-untils}

@@ -1,6 +1,7 @@
 use Rattle.std.proofs.Common.{arith, refl, Some, append-nil}
 use Rattle.aeth_report.specs.Sessions.{go_by}
-use Rattle.aeth_schedule.specs.{ByLine.goings_at, Goings.going_by, Lines.changed_lines, Lines.lines_at}
+use Rattle.aeth_schedule.specs.{ByLine.goings_at, Goings.going_by, Lines.changed_lines}
+use Rattle.aeth_schedule.specs.{Lines.lines_at}
 use Rattle.aeth_scheduling.proofs.GoingLemmas.{going-early, going-late}
 use Rattle.aeth_scheduling.proofs.going.push_opened.Goals as goal
 

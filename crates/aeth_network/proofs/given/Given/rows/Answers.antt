@@ -1,8 +1,9 @@
 use Rattle.std.proofs.Common.{◌∙◌, ◌+◌, ℕ, List, ap, arith, map, subst, sym, slice_range}
 use Rattle.aeth_schedule.specs.declared.going.{Going.Going, GoingByLine.GoingByLine}
 use Rattle.aeth_stimuli.specs.Stimuli.{Offer, Take}
-use Rattle.aeth_network.{specs.Behind.passed, specs.Windows.AreOver, proofs.MappedRows.events-range}
-use Rattle.aeth_network.proofs.MappedRows.{behind-keyed, length-keyed, passed-keyed, rises-keyed}
+use Rattle.aeth_network.specs.{Behind.passed, Windows.AreOver}
+use Rattle.aeth_network.proofs.MappedRows.{events-range, behind-keyed, length-keyed, passed-keyed}
+use Rattle.aeth_network.proofs.MappedRows.{rises-keyed}
 use Rattle.aeth_network.proofs.given.Given.rows.Goals as goal
 
 -- Sessions go in the cycles of their list.
