@@ -60,8 +60,8 @@ impl<'a> RunInputs<'a> {
         requires groups { groups.now ≡ groups_of app.now }
         requires accepted { AreAccepted (inputs_with chip.now app.now plan.now traces.words.now
             traces.receivers.now traces.switches.now cycles) }
-        ensures { result ≡ inputs_with chip.now app.now plan.now traces.words.now
-            traces.receivers.now traces.switches.now cycles }
+        ensures { result ≡ inputs_with chip.now app.now plan.now traces.entry.words.now
+            traces.entry.receivers.now traces.entry.switches.now cycles }
     {
         RunInputs {
             chip,
