@@ -5,19 +5,21 @@
 
 Each folder is a crate's. Names of one module share lines of at most 100 columns, and modules below one path share them too
 where that gives fewer: `use Rattle.std.proofs.lemmas.{Bool.cases_Bool, List.map-append}`. So each name keeps its home.
-A name of the library that its `proofs/Common` passes on is taken from there. Files with a `pub use` of their own are left.
-`rt tidy` drops names that nobody uses from such lines, and `rt fmt` leaves the lines as they are. Prints how many there were
-and are.
+A name of the library that its `proofs/Common` passes on is taken from there, where `rt` is on the path. Files with a `pub use`
+of their own are left. `rt tidy` drops names that nobody uses from such lines, and `rt fmt` leaves the lines as they are. Prints
+how many there were and are.
 """
 import pathlib
 import re
+import shutil
 import sys
 
 WIDTH = 100
 LEAST_PATH = 2
 USE = re.compile(r"use (\S+)\.\{(.*)\}$")
 PASSED_ON = re.compile(r"(?:unfoldable )?pub use (\S+)\.\{(.*)\}")
-LIBRARY = pathlib.Path("/opt/rattle/rattle")
+RT = shutil.which("rt")
+LIBRARY = pathlib.Path(RT).resolve().parent.parent / "rattle" if RT else None
 COMMON = ("Rattle", "std", "proofs", "Common")
 
 
@@ -37,8 +39,8 @@ class Library:
     def passed_on(self, module):
         """What the file of the module passes on: a name, with the module and the name that it has there."""
         if module not in self.rows:
-            base = LIBRARY.joinpath(*module[1:])
-            files = [it for it in (base.with_suffix(".antt"), base / "Lib.antt") if it.is_file()]
+            base = LIBRARY.joinpath(*module[1:]) if LIBRARY else None
+            files = [it for it in (base.with_suffix(".antt"), base / "Lib.antt") if it.is_file()] if base else []
             self.rows[module] = {}
             for line in files[0].read_text().splitlines() if files else []:
                 found = PASSED_ON.match(line)
