@@ -1,4 +1,4 @@
--- Where no two open lanes share a queue, what each does in its turn it does alone.
+-- Where no two open channel states share a queue, what each does in its turn it does alone.
 use Rattle.std.proofs.Common.{ℕ, zero, suc, ◌≡◌, ◌≢◌, ◌<◌, refl, sym, ◌∙◌, ap, subst, arith, inl}
 use Rattle.std.proofs.Common.{inr, map, length, List, [], ◌∷◌, Option, Some, slice_get}
 use Rattle.std.proofs.Common.{get_or-set_other}
@@ -6,9 +6,9 @@ use Rattle.std.proofs.lemmas.{Bool.cases_eq, Option.same_Some}
 use Rattle.std.specs.Option.{option_map_or}
 use Rattle.aeth_router.specs.declared.part.Part.{Part}
 use Rattle.aeth_router.specs.declared.part.Part.TheVariants.{Interface, Router, Stage, TableRouter}
-use Rattle.aeth_components.specs.declared.lane.ChannelEnd.{ChannelEnd}
+use Rattle.aeth_components.specs.declared.channel_state.ChannelEnd.{ChannelEnd}
 use Rattle.aeth_components.specs.Changes.{at_end, on_interface, told_at, told_by, with_part}
-use Rattle.aeth_components.specs.Frames.{Frame, InterfaceFrame, frame_of}
+use Rattle.aeth_components.specs.Wirings.{Wiring, InterfaceWiring, wiring_of}
 use Rattle.aeth_components.specs.View.{HasQueue, queue_in, queue_of}
 use Rattle.aeth_components.proofs.QueueLemmas.{queue_at-changed}
 use Rattle.aeth_ni.specs.Interface.{InterfaceState, changed, queue_at}
@@ -35,26 +35,26 @@ slice_get-with_part_other (part ∷ parts) (suc number) (suc other) change apart
 
 -- The interface of an end.
 face_in : (part : Part) (number : _) (leaving entering : _) (slots queues : ℕ)
-    → frame_of part ≡ InterfaceFrame number leaving entering slots queues
+    → wiring_of part ≡ InterfaceWiring number leaving entering slots queues
     → (ni : InterfaceState) × (part ≡ Interface ni) × (length ni.queues ≡ queues)
 face_in (Interface ni) number leaving entering slots queues is = (ni, refl, cc)
 face_in (Router router) number leaving entering slots queues is = absurd cc
 face_in (TableRouter router) number leaving entering slots queues is = absurd cc
 face_in (Stage stage) number leaving entering slots queues is = absurd cc
 
-pub interface-at : (parts : List Part) (number : ℕ) (frame : Frame)
-    → slice_get (map frame_of parts) number ≡ Some frame
-    → (part : Part) × (slice_get parts number ≡ Some part) × (frame_of part ≡ frame)
-interface-at [] number frame at = absurd cc
-interface-at (part ∷ parts) zero frame at = (part, refl, same_Some (frame_of part) frame at)
-interface-at (part ∷ parts) (suc number) frame at = interface-at parts number frame at
+pub interface-at : (parts : List Part) (number : ℕ) (wiring : Wiring)
+    → slice_get (map wiring_of parts) number ≡ Some wiring
+    → (part : Part) × (slice_get parts number ≡ Some part) × (wiring_of part ≡ wiring)
+interface-at [] number wiring at = absurd cc
+interface-at (part ∷ parts) zero wiring at = (part, refl, same_Some (wiring_of part) wiring at)
+interface-at (part ∷ parts) (suc number) wiring at = interface-at parts number wiring at
 
-pub interface-of : (parts : List Part) (end : ChannelEnd) → HasQueue (map frame_of parts) end
+pub interface-of : (parts : List Part) (end : ChannelEnd) → HasQueue (map wiring_of parts) end
     → (ni : InterfaceState) × (slice_get parts end.ni.0 ≡ Some (Interface ni))
     × (end.queue < length ni.queues)
 interface-of parts end has =
     let found = interface-at parts end.ni.0
-    (InterfaceFrame has.number has.leaving has.entering has.slots has.queues) has.face in
+    (InterfaceWiring has.number has.leaving has.entering has.slots has.queues) has.face in
     let face = face_in found.0 has.number has.leaving has.entering has.slots has.queues found.2 in
     let within = has.within in
     let size = face.2 in
@@ -62,7 +62,7 @@ interface-of parts end has =
 
 -- The queue that has changed.
 pub queue_of-at_end_same : (parts : List Part) (end : ChannelEnd) (change : QueueState → QueueState)
-    → HasQueue (map frame_of parts) end
+    → HasQueue (map wiring_of parts) end
     → queue_of (at_end end change parts) end.ni.0 end.queue
     ≡ change (queue_of parts end.ni.0 end.queue)
 queue_of-at_end_same parts end change has =
@@ -111,7 +111,7 @@ queue_of-at_end_other parts end change ni queue apart =
 
 -- What a queue tells.
 pub told_at-queue_of : (parts : List Part) (end : ChannelEnd) (tells : QueueState → ℕ)
-    → HasQueue (map frame_of parts) end
+    → HasQueue (map wiring_of parts) end
     → told_at end tells parts ≡ tells (queue_of parts end.ni.0 end.queue)
 told_at-queue_of parts end tells has =
     let found = interface-of parts end has in

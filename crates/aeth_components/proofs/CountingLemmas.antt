@@ -9,10 +9,11 @@ use Rattle.std.proofs.lemmas.Option.{same_Some, slice_get-get_or, unwrap_or-slic
 use Rattle.std.specs.Option.{option_map_or}
 use Rattle.aeth_clocked.specs.{Wires.flit_on, declared.flit.Flit.Flit}
 use Rattle.aeth_router.specs.declared.part.Part.{Part}
-use Rattle.aeth_components.specs.{declared.lane.Lane.Lane, Counting.brings, Counting.brought_at}
-use Rattle.aeth_components.specs.{Counting.counted, Counting.flits_counted, Counting.noted}
-use Rattle.aeth_components.specs.{Counting.with_flit, Counting.written_over, Lanes.IsLane}
-use Rattle.aeth_components.specs.{Lanes.is_open, Queues.brought_by}
+use Rattle.aeth_components.specs.declared.channel_state.ChannelState.{ChannelState}
+use Rattle.aeth_components.specs.Counting.{brings, brought_at, counted, flits_counted, noted}
+use Rattle.aeth_components.specs.Counting.{with_flit, written_over}
+use Rattle.aeth_components.specs.ChannelStates.{IsChannelState, is_open}
+use Rattle.aeth_components.specs.Queues.{brought_by}
 use Rattle.aeth_ni.specs.Queue.{capped}
 
 -- One more item is mapped in its place.
@@ -47,69 +48,82 @@ map-ahead f xs now i default within is =
     ap (λ (list : List _). get_or list i default) is ∙ map-ahead_at f xs i default within
 
 -- A channel whose turn comes while it is open, or not.
-pub counted-open : (cycle : ℕ) (parts : List Part) (lane : Lane) → is_open lane cycle ≡ true
-    → counted cycle parts lane ≡ record lane { landed = lane.landed + brings parts lane }
-counted-open cycle parts lane opened = rw opened refl
+pub counted-open : (cycle : ℕ) (parts : List Part) (channel_state : ChannelState)
+    → is_open channel_state cycle ≡ true
+    → counted cycle parts channel_state
+    ≡ record channel_state { landed = channel_state.landed + brings parts channel_state }
+counted-open cycle parts channel_state opened = rw opened refl
 
-pub noted-open : (cycle : ℕ) (parts : List Part) (landings : List ℕ) (lane : Lane)
-    → is_open lane cycle ≡ true
-    → noted cycle parts landings lane
-    ≡ written_over (brings parts lane) (lane.first + lane.landed) (cycle + 1) landings
-noted-open cycle parts landings lane opened = rw opened refl
+pub noted-open : (cycle : ℕ) (parts : List Part) (landings : List ℕ) (channel_state : ChannelState)
+    → is_open channel_state cycle ≡ true
+    → noted cycle parts landings channel_state
+    ≡ written_over (brings parts channel_state) (channel_state.first + channel_state.landed)
+    (cycle + 1) landings
+noted-open cycle parts landings channel_state opened = rw opened refl
 
-pub counted-closed : (cycle : ℕ) (parts : List Part) (lane : Lane) → is_open lane cycle ≡ false
-    → counted cycle parts lane ≡ lane
-counted-closed cycle parts lane closed = rw closed refl
+pub counted-closed : (cycle : ℕ) (parts : List Part) (channel_state : ChannelState)
+    → is_open channel_state cycle ≡ false
+    → counted cycle parts channel_state ≡ channel_state
+counted-closed cycle parts channel_state closed = rw closed refl
 
-pub noted-closed : (cycle : ℕ) (parts : List Part) (landings : List ℕ) (lane : Lane)
-    → is_open lane cycle ≡ false → noted cycle parts landings lane ≡ landings
-noted-closed cycle parts landings lane closed = rw closed refl
+pub noted-closed : (cycle : ℕ) (parts : List Part) (landings : List ℕ)
+    (channel_state : ChannelState)
+    → is_open channel_state cycle ≡ false → noted cycle parts landings channel_state ≡ landings
+noted-closed cycle parts landings channel_state closed = rw closed refl
 
 -- Where no words land, a channel stays as it was, and nothing is noted.
-pub counted-still : (cycle : ℕ) (parts : List Part) (lane : Lane) → brings parts lane ≡ 0
-    → counted cycle parts lane ≡ lane
-counted-still cycle parts lane still =
-    elim (cases_Bool (is_open lane cycle)) [
+pub counted-still : (cycle : ℕ) (parts : List Part) (channel_state : ChannelState)
+    → brings parts channel_state ≡ 0
+    → counted cycle parts channel_state ≡ channel_state
+counted-still cycle parts channel_state still =
+    elim (cases_Bool (is_open channel_state cycle)) [
       | inl opened ↦
-          let same : lane.landed + brings parts lane ≡ lane.landed = omega (arith, still) in
-          counted-open cycle parts lane opened ∙ ap (λ n. record lane { landed = n }) same
-      | inr closed ↦ counted-closed cycle parts lane closed
+          let same : channel_state.landed + brings parts channel_state ≡ channel_state.landed =
+          omega (arith, still) in
+          counted-open cycle parts channel_state opened
+          ∙ ap (λ n. record channel_state { landed = n }) same
+      | inr closed ↦ counted-closed cycle parts channel_state closed
     ]
 
-pub noted-still : (cycle : ℕ) (parts : List Part) (landings : List ℕ) (lane : Lane)
-    → brings parts lane ≡ 0 → noted cycle parts landings lane ≡ landings
-noted-still cycle parts landings lane still =
-    elim (cases_Bool (is_open lane cycle)) [
+pub noted-still : (cycle : ℕ) (parts : List Part) (landings : List ℕ) (channel_state : ChannelState)
+    → brings parts channel_state ≡ 0 → noted cycle parts landings channel_state ≡ landings
+noted-still cycle parts landings channel_state still =
+    elim (cases_Bool (is_open channel_state cycle)) [
       | inl opened ↦
-          noted-open cycle parts landings lane opened
-          ∙ ap (λ n. written_over n (lane.first + lane.landed) (cycle + 1) landings) still
-      | inr closed ↦ noted-closed cycle parts landings lane closed
+          noted-open cycle parts landings channel_state opened
+          ∙ ap (λ n. written_over n (channel_state.first + channel_state.landed) (cycle + 1)
+          landings) still
+      | inr closed ↦ noted-closed cycle parts landings channel_state closed
     ]
 
--- So it is where all that was handed on has landed.
-pub brings-none : (parts : List Part) (lane : Lane) → lane.handed ≤ lane.landed
-    → brings parts lane ≡ 0
-brings-none parts lane none = omega arith
+-- So it is where all that was enqueued has landed.
+pub brings-none : (parts : List Part) (channel_state : ChannelState)
+    → channel_state.enqueued ≤ channel_state.landed
+    → brings parts channel_state ≡ 0
+brings-none parts channel_state none = omega arith
 
-pub counted-none : (cycle : ℕ) (parts : List Part) (lane : Lane) → lane.handed ≤ lane.landed
-    → counted cycle parts lane ≡ lane
-counted-none cycle parts lane none =
-    counted-still cycle parts lane (brings-none parts lane none)
+pub counted-none : (cycle : ℕ) (parts : List Part) (channel_state : ChannelState)
+    → channel_state.enqueued ≤ channel_state.landed
+    → counted cycle parts channel_state ≡ channel_state
+counted-none cycle parts channel_state none =
+    counted-still cycle parts channel_state (brings-none parts channel_state none)
 
 -- And where the receiver's component got no words.
-pub brings-silent : (parts : List Part) (lane : Lane) (part : Part)
-    → slice_get parts lane.receiver.ni.0 ≡ Some part
-    → brought_by lane.receiver.queue part ≡ 0 → brings parts lane ≡ 0
-brings-silent parts lane part at silent =
-    let none : brought_at lane.receiver parts ≡ 0 =
-    ap (λ found. option_map_or (brought_by lane.receiver.queue) found 0) at ∙ silent in
+pub brings-silent : (parts : List Part) (channel_state : ChannelState) (part : Part)
+    → slice_get parts channel_state.receiver.ni.0 ≡ Some part
+    → brought_by channel_state.receiver.queue part ≡ 0 → brings parts channel_state ≡ 0
+brings-silent parts channel_state part at silent =
+    let none : brought_at channel_state.receiver parts ≡ 0 =
+    ap (λ found. option_map_or (brought_by channel_state.receiver.queue) found 0) at ∙ silent in
     omega (arith, none)
 
 -- Counting keeps what holds of a channel.
-pub IsLane-counted : (words cycle count : ℕ) (parts : List Part) (lane : Lane)
-    → IsLane words count lane → IsLane words count (counted cycle parts lane)
-IsLane-counted words cycle count parts lane sound =
-    elim (cases_Bool (is_open lane cycle)) [
+pub IsChannelState-counted : (words cycle count : ℕ) (parts : List Part)
+    (channel_state : ChannelState)
+    → IsChannelState words count channel_state
+    → IsChannelState words count (counted cycle parts channel_state)
+IsChannelState-counted words cycle count parts channel_state sound =
+    elim (cases_Bool (is_open channel_state cycle)) [
       | inl opened ↦ rw opened (
           let taken = sound.taken in
           let landed = sound.landed in
@@ -118,32 +132,38 @@ IsLane-counted words cycle count parts lane sound =
             receiver = sound.receiver;
             taken = omega arith;
             landed = omega arith;
-            handed = sound.handed;
+            enqueued = sound.enqueued;
             within = sound.within;
           })
       | inr closed ↦ rw closed sound
     ]
 
 -- The next channel is as sound as it was.
-pub IsLane-ahead : (words parts : ℕ) (f : Lane → Lane) (xs now : List Lane) (i : ℕ)
-    (default : Lane) → i < length xs → now ≡ map f (take i xs) ++ drop i xs
-    → IsLane words parts (get_or xs i default) → IsLane words parts (get_or now i default)
-IsLane-ahead words parts f xs now i default within is sound =
-    subst (IsLane words parts) (sym (map-ahead f xs now i default within is)) sound
+pub IsChannelState-ahead : (words parts : ℕ) (f : ChannelState → ChannelState)
+    (xs now : List ChannelState) (i : ℕ)
+    (default : ChannelState) → i < length xs → now ≡ map f (take i xs) ++ drop i xs
+    → IsChannelState words parts (get_or xs i default)
+    → IsChannelState words parts (get_or now i default)
+IsChannelState-ahead words parts f xs now i default within is sound =
+    subst (IsChannelState words parts) (sym (map-ahead f xs now i default within is)) sound
 
 -- One channel more is noted.
-pub noted-more : (count : Lane → Lane) (note : List ℕ → Lane → List ℕ) (lanes : List Lane)
-    (lanes_now : List Lane) (before now new : List ℕ) (place : ℕ) (default : Lane)
-    → place < length lanes
-    → lanes_now ≡ map count (take place lanes) ++ drop place lanes
-    → now ≡ fold note before (take place lanes)
-    → new ≡ note now (get_or lanes_now place default)
-    → new ≡ fold note before (take (place + 1) lanes)
-noted-more count note lanes lanes_now before now new place default within ahead so_far to =
-    to ∙ ap (note now) (map-ahead count lanes lanes_now place default within ahead)
-    ∙ ap (λ (list : List ℕ). note list (get_or lanes place default)) so_far
-    ∙ sym (fold_push note before (take place lanes) (get_or lanes place default))
-    ∙ ap (fold note before) (sym (take_more lanes place default within))
+pub noted-more : (count : ChannelState → ChannelState) (note : List ℕ → ChannelState → List ℕ)
+    (channel_states : List ChannelState)
+    (channel_states_now : List ChannelState) (before now new : List ℕ) (place : ℕ)
+    (default : ChannelState)
+    → place < length channel_states
+    → channel_states_now ≡ map count (take place channel_states) ++ drop place channel_states
+    → now ≡ fold note before (take place channel_states)
+    → new ≡ note now (get_or channel_states_now place default)
+    → new ≡ fold note before (take (place + 1) channel_states)
+noted-more count note channel_states channel_states_now before now new place default within ahead
+    so_far to =
+    to ∙ ap (note now)
+    (map-ahead count channel_states channel_states_now place default within ahead)
+    ∙ ap (λ (list : List ℕ). note list (get_or channel_states place default)) so_far
+    ∙ sym (fold_push note before (take place channel_states) (get_or channel_states place default))
+    ∙ ap (fold note before) (sym (take_more channel_states place default within))
 
 -- Writing keeps the length.
 pub length-written_over : (count from value : ℕ) (list : List ℕ)
@@ -154,22 +174,25 @@ length-written_over (suc count) from value list =
     ∙ length-written_over count from value list
 
 -- So does noting.
-pub length-noted : (cycle : ℕ) (parts : List Part) (landings : List ℕ) (lane : Lane)
-    → length (noted cycle parts landings lane) ≡ length landings
-length-noted cycle parts landings lane =
-    elim (cases_Bool (is_open lane cycle)) [
+pub length-noted : (cycle : ℕ) (parts : List Part) (landings : List ℕ)
+    (channel_state : ChannelState)
+    → length (noted cycle parts landings channel_state) ≡ length landings
+length-noted cycle parts landings channel_state =
+    elim (cases_Bool (is_open channel_state cycle)) [
       | inl opened ↦
-          ap length (noted-open cycle parts landings lane opened)
-          ∙ length-written_over (brings parts lane) (lane.first + lane.landed) (cycle + 1) landings
-      | inr closed ↦ ap length (noted-closed cycle parts landings lane closed)
+          ap length (noted-open cycle parts landings channel_state opened)
+          ∙ length-written_over (brings parts channel_state)
+          (channel_state.first + channel_state.landed) (cycle + 1) landings
+      | inr closed ↦ ap length (noted-closed cycle parts landings channel_state closed)
     ]
 
-pub length-notes : (cycle : ℕ) (parts : List Part) (lanes : List Lane) (landings : List ℕ)
-    → length (fold (noted cycle parts) landings lanes) ≡ length landings
+pub length-notes : (cycle : ℕ) (parts : List Part) (channel_states : List ChannelState)
+    (landings : List ℕ)
+    → length (fold (noted cycle parts) landings channel_states) ≡ length landings
 length-notes cycle parts [] landings = refl
-length-notes cycle parts (lane ∷ lanes) landings =
-    length-notes cycle parts lanes (noted cycle parts landings lane)
-    ∙ length-noted cycle parts landings lane
+length-notes cycle parts (channel_state ∷ channel_states) landings =
+    length-notes cycle parts channel_states (noted cycle parts landings channel_state)
+    ∙ length-noted cycle parts landings channel_state
 
 -- So does counting flits.
 pub length-flits_counted : (wires : List (Option Flit)) (counts : List ℕ)

@@ -14,20 +14,20 @@ use Rattle.aeth_router.specs.Onward.{Arrival, CameFrom, arrival_at, carried}
 use Rattle.aeth_router.specs.Part.{emit_of, outputs_of}
 use Rattle.aeth_router.specs.declared.part.Part.{Part}
 use Rattle.aeth_router.specs.declared.part.Part.TheVariants.{Interface, Router, Stage, TableRouter}
-use Rattle.aeth_components.proofs.FrameLemmas.{AreDisjoint-parts, from-map, is_output-parts}
-use Rattle.aeth_components.proofs.FrameLemmas.{outputs_of-frame}
+use Rattle.aeth_components.proofs.WiringLemmas.{AreDisjoint-parts, from-map, is_output-parts}
+use Rattle.aeth_components.proofs.WiringLemmas.{outputs_of-wiring}
 use Rattle.aeth_components.proofs.OwnLemmas.{emits-mute, mute-other, output-below}
 use Rattle.aeth_components.proofs.PassedLemmas.{passed-emits, passed-none}
-use Rattle.aeth_components.proofs.SeenLemmas.{frames-seen, outputs_of-seen}
+use Rattle.aeth_components.proofs.SeenLemmas.{wirings-seen, outputs_of-seen}
 use Rattle.aeth_components.proofs.SeenCycle.{sends_own-seen}
 use Rattle.aeth_components.specs.{Components.wires_driven, Ends.AreEnds, Ends.is_interface}
-use Rattle.aeth_components.specs.{Frames.Frame, Frames.IsWired, Frames.frame_of, Frames.sends_by}
-use Rattle.aeth_components.specs.{Passing.passed_from, Seen.all_seen, Seen.seen, Sending.Injects}
-use Rattle.aeth_components.specs.{Turns.sends_own, declared.ends.Ends.Ends}
+use Rattle.aeth_components.specs.{Wirings.Wiring, Wirings.IsWired, Wirings.wiring_of}
+use Rattle.aeth_components.specs.{Wirings.sends_by, Passing.passed_from, Seen.all_seen, Seen.seen}
+use Rattle.aeth_components.specs.{Sending.Injects, FlitsOnWires.sends_own, declared.ends.Ends.Ends}
 
 -- What an interface emits doesn't depend on what came to it last.
 emits-seen : (wires : List (Option Flit)) (cycle wire : ℕ) (part : Part)
-    → is_interface (frame_of part) ≡ true
+    → is_interface (wiring_of part) ≡ true
     → emit_of part cycle wire ≡ emit_of (seen wires part) cycle wire
 emits-seen wires cycle wire (Interface ni) is = refl
 emits-seen wires cycle wire (Router router) is = absurd (cc is)
@@ -35,16 +35,17 @@ emits-seen wires cycle wire (TableRouter router) is = absurd (cc is)
 emits-seen wires cycle wire (Stage stage) is = absurd (cc is)
 
 module _ (parts : List Part) (wires : List (Option Flit)) (ends : Ends) (cycle : ℕ)
-    (wired : IsWired (map frame_of parts) (length wires))
-    (are : AreEnds (map frame_of parts) (length wires) ends) (arrivals : List Arrival)
+    (wired : IsWired (map wiring_of parts) (length wires))
+    (are : AreEnds (map wiring_of parts) (length wires) ends) (arrivals : List Arrival)
     (size : length arrivals ≡ length wires)
     (came : (out : ℕ) → out < length wires
     → CameFrom (passed_from ends.receivers.items parts wires cycle out) (length wires)
     (arrival_at arrivals out)) where
   -- What components hold makes no difference to how they are wired.
-  seen-wired : IsWired (map frame_of (all_seen wires parts)) (length wires)
+  seen-wired : IsWired (map wiring_of (all_seen wires parts)) (length wires)
   seen-wired =
-      subst (λ (frames : List Frame). IsWired frames (length wires)) (sym (frames-seen wires parts)) wired
+      subst (λ (wirings : List Wiring). IsWired wirings (length wires))
+      (sym (wirings-seen wires parts)) wired
 
   -- What the wires carry that has come.
   settled-at : (settled : List (Option Flit)) → settled ≡ map carried arrivals → (wire : ℕ)
@@ -70,10 +71,10 @@ module _ (parts : List Part) (wires : List (Option Flit)) (ends : Ends) (cycle :
       → flit_on now wire ≡ emit_of (seen wires part) cycle wire
   output-emits settled now is injects i wire part at own =
       let within = output-below parts (length wires) wired i part at wire own in
-      let framed = map-at frame_of parts i part at in
+      let wired_for = map-at wiring_of parts i part at in
       elim (cases_lt i ends.interfaces) [
         | inl less ↦
-            let first = are.first i (frame_of part) framed less in
+            let first = are.first i (wiring_of part) wired_for less in
             elim (cases_Bool (sends_own cycle part)) [
               | inl sends ↦ injects.own i wire part at sends own
               | inr mute ↦
@@ -83,7 +84,7 @@ module _ (parts : List Part) (wires : List (Option Flit)) (ends : Ends) (cycle :
             ] ∙ emits-seen wires cycle wire part first
         | inr over ↦
             injects.other i wire part at
-            (mute-other cycle part (are.others i (frame_of part) framed over)) own
+            (mute-other cycle part (are.others i (wiring_of part) wired_for over)) own
             ∙ settled-at settled is wire within
             ∙ passed-emits parts wires ends cycle wired are i wire part (arrival_at arrivals wire) at
             over own (came wire within)
@@ -94,10 +95,11 @@ module _ (parts : List Part) (wires : List (Option Flit)) (ends : Ends) (cycle :
       → Injects cycle parts settled now → (wire : ℕ) → wire < length wires
       → flit_on now wire ≡ driven outputs_of emit_of (all_seen wires parts) cycle wire
   driven-at-wire settled now is injects wire within =
-      let (i, frame, there, sends) = wired.owned wire within in
-      let (part, at, framed) = from-map frame_of parts i frame there in
+      let (i, wiring, there, sends) = wired.owned wire within in
+      let (part, at, wired_for) = from-map wiring_of parts i wiring there in
       let own : outputs_of part wire ≡ true =
-      outputs_of-frame part wire ∙ ap (λ (frame : Frame). sends_by frame wire) (sym framed) ∙ sends in
+      outputs_of-wiring part wire ∙ ap (λ (wiring : Wiring). sends_by wiring wire) (sym wired_for)
+      ∙ sends in
       output-emits settled now is injects i wire part at own
       ∙ sym (driven-at outputs_of emit_of (all_seen wires parts) i cycle wire (seen wires part)
       (AreDisjoint-parts (all_seen wires parts) (length wires) seen-wired)

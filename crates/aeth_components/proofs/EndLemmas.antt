@@ -15,11 +15,11 @@ use Rattle.aeth_router.proofs.WireLemmas.{map-is_among}
 use Rattle.aeth_components.specs.Components.{part_count}
 use Rattle.aeth_components.specs.Ends.{AreReceivers, AreSenders, IsAtEnds, part_number}
 use Rattle.aeth_components.specs.Ends.{receiver_for, stage_number}
-use Rattle.aeth_components.specs.Frames.{Frame, frame_of, receives_by, sends_by}
+use Rattle.aeth_components.specs.Wirings.{Wiring, wiring_of, receives_by, sends_by}
 use Rattle.aeth_components.specs.Making.{made_interface, made_router, made_stage, new_parts}
 use Rattle.aeth_components.specs.declared.making.RouterKind.TheVariants.{ByHeader}
 use Rattle.aeth_components.proofs.MadeParts.{StageAt, same_node-place}
-use Rattle.aeth_components.proofs.MadeLemmas.{Made, IsInterface, IsRouter, IsStage, frame-sends}
+use Rattle.aeth_components.proofs.MadeLemmas.{Made, IsInterface, IsRouter, IsStage, wiring-sends}
 use Rattle.aeth_components.proofs.MadeLemmas.{length-new_parts, made-at}
 
 -- A wire of a link, and the component that receives on it.
@@ -71,7 +71,7 @@ module _ (chip : ChipData) (is_chip : IsChip chip) (rooms : List ℕ) where
       }
 
   interface-end : (n wire : ℕ) → n < length chip.nis
-      → receives_by (frame_of (made_interface chip rooms n)) wire ≡ true → ReceivesAt chip n wire
+      → receives_by (wiring_of (made_interface chip rooms n)) wire ≡ true → ReceivesAt chip n wire
   interface-end n wire within is =
       let node : Node = Ni (record { 0 = n }) in
       let single = is_chip.single (record { 0 = n }) within in
@@ -82,7 +82,7 @@ module _ (chip : ChipData) (is_chip : IsChip chip) (rooms : List ℕ) where
       (ap (last_wire chip.links) (sym only)
       ∙ eqb-true (last_wire chip.links (slice_index links 0)) wire is)
 
-  router-end : (r wire : ℕ) → receives_by (frame_of (made_router chip ByHeader r)) wire ≡ true
+  router-end : (r wire : ℕ) → receives_by (wiring_of (made_router chip ByHeader r)) wire ≡ true
       → ReceivesAt chip (length chip.nis + r) wire
   router-end r wire is =
       let node : Node = Router (record { 0 = r }) in
@@ -90,11 +90,11 @@ module _ (chip : ChipData) (is_chip : IsChip chip) (rooms : List ℕ) where
       node-receives node found.0 wire found.1 found.2
 
   stage-end : (k wire : ℕ) (part : Part) → StageAt chip.links k part
-      → receives_by (frame_of part) wire ≡ true
+      → receives_by (wiring_of part) wire ≡ true
       → ReceivesAt chip (length chip.nis + length chip.routers + k) wire
   stage-end k wire part stage is =
-      let receives : receives_by (frame_of (made_stage chip.links stage.link stage.place)) wire
-      ≡ true = ap (λ (part : Part). receives_by (frame_of part) wire) (sym stage.is) ∙ is in
+      let receives : receives_by (wiring_of (made_stage chip.links stage.link stage.place)) wire
+      ≡ true = ap (λ (part : Part). receives_by (wiring_of part) wire) (sym stage.is) ∙ is in
       let behind = wire_at-behind chip.links stage.link (stage.place + 1) (λ none. omega arith) in
       let place = stage.number_is in
       let short = stage.short in
@@ -110,25 +110,26 @@ module _ (chip : ChipData) (is_chip : IsChip chip) (rooms : List ℕ) where
       }
 
   receives-at : (i wire : ℕ) (part : Part) → Made chip rooms i part
-      → receives_by (frame_of part) wire ≡ true → ReceivesAt chip i wire
+      → receives_by (wiring_of part) wire ≡ true → ReceivesAt chip i wire
   receives-at i wire part (IsInterface within is) receives =
       interface-end i wire within
-      (ap (λ (part : Part). receives_by (frame_of part) wire) (sym is) ∙ receives)
+      (ap (λ (part : Part). receives_by (wiring_of part) wire) (sym is) ∙ receives)
   receives-at i wire part (IsRouter r within place is) receives =
       rw place (router-end r wire
-      (ap (λ (part : Part). receives_by (frame_of part) wire) (sym is) ∙ receives))
+      (ap (λ (part : Part). receives_by (wiring_of part) wire) (sym is) ∙ receives))
   receives-at i wire part (IsStage k few place stage) receives =
       rw place (stage-end k wire part stage receives)
 
-  -- As many frames as components.
-  length-frames : length (map frame_of (new_parts chip ByHeader rooms)) ≡ part_count chip
-  length-frames = length-map (new_parts chip ByHeader rooms) frame_of ∙ length-new_parts chip rooms
+  -- As many wirings as components.
+  length-wirings : length (map wiring_of (new_parts chip ByHeader rooms)) ≡ part_count chip
+  length-wirings = length-map (new_parts chip ByHeader rooms) wiring_of
+      ∙ length-new_parts chip rooms
 
   -- Each component sends on its outputs alone.
   pub IsAtEnds-senders : (senders : List ℕ) → AreSenders chip senders
-      → IsAtEnds sends_by (map frame_of (new_parts chip ByHeader rooms)) senders
+      → IsAtEnds sends_by (map wiring_of (new_parts chip ByHeader rooms)) senders
   IsAtEnds-senders senders are = record {
-    at = λ wire i frame at sends. elim (frame-sends chip is_chip rooms i wire frame at sends) [
+    at = λ wire i wiring at sends. elim (wiring-sends chip is_chip rooms i wire wiring at sends) [
       | inl link ↦ are.first wire link.0 link.1 ∙ ap (λ (n : ℕ). Some n) link.2
       | inr further ↦
           let k = further.0 in
@@ -137,19 +138,19 @@ module _ (chip : ChipData) (is_chip : IsChip chip) (rooms : List ℕ) where
           ap (slice_get senders) further.2 ∙ are.further k further.1
           ∙ ap (λ (n : ℕ). Some n) number
     ];
-    below = subst (λ n. All (λ number. number < n) senders) (sym length-frames) are.below;
+    below = subst (λ n. All (λ number. number < n) senders) (sym length-wirings) are.below;
   }
 
   -- And receives on its inputs alone.
   pub IsAtEnds-receivers : (receivers : List ℕ) → AreReceivers chip receivers
-      → IsAtEnds receives_by (map frame_of (new_parts chip ByHeader rooms)) receivers
+      → IsAtEnds receives_by (map wiring_of (new_parts chip ByHeader rooms)) receivers
   IsAtEnds-receivers receivers are = record {
-    at = λ wire i frame at receives.
-        let made = made-at chip is_chip rooms i frame at in
+    at = λ wire i wiring at receives.
+        let made = made-at chip is_chip rooms i wiring at in
         let end = receives-at i wire made.0 made.1
-        (ap (λ (frame : Frame). receives_by frame wire) (sym made.2) ∙ receives) in
+        (ap (λ (wiring : Wiring). receives_by wiring wire) (sym made.2) ∙ receives) in
         ap (slice_get receivers) end.is
         ∙ are.at end.number end.place end.link end.at end.short
         ∙ ap (λ (n : ℕ). Some n) end.number_is;
-    below = subst (λ n. All (λ number. number < n) receivers) (sym length-frames) are.below;
+    below = subst (λ n. All (λ number. number < n) receivers) (sym length-wirings) are.below;
   }

@@ -6,19 +6,20 @@ use Rattle.aeth_router.specs.declared.part.Part.TheVariants.{Interface, Router, 
 use Rattle.aeth_router.specs.declared.router_row.RouterRow.{RouterRow}
 use Rattle.aeth_router.proofs.RowLemmas.{with_table-kept}
 use Rattle.aeth_components.specs.{Components.ComponentsState, Components.IsComponents}
-use Rattle.aeth_components.specs.{Entering.entered, Entering.with_rows, Frames.RouterFrame}
-use Rattle.aeth_components.specs.{Frames.frame_of, Injecting.entries_of, Passing.way_of}
+use Rattle.aeth_components.specs.{Entering.entered, Entering.with_rows, Wirings.RouterWiring}
+use Rattle.aeth_components.specs.{Wirings.wiring_of, Injecting.entries_of, Passing.way_of}
 use Rattle.aeth_components.specs.{View.queue_in, View.queue_of}
-use Rattle.aeth_components.proofs.{CycleLemmas.IsComponents-framed, FrameLemmas.views-map}
+use Rattle.aeth_components.proofs.{CycleLemmas.IsComponents-wired_for, WiringLemmas.views-map}
 
 -- Rows change no wire of a router.
-frame-entered : (rows : List RouterRow) (part : Part) → frame_of (entered rows part) ≡ frame_of part
-frame-entered rows (Interface ni) = refl
-frame-entered rows (Router router) = refl
-frame-entered rows (TableRouter router) =
-    ap (λ (router : TableRouterState). RouterFrame router.incoming router.outgoing)
+wiring-entered : (rows : List RouterRow) (part : Part)
+    → wiring_of (entered rows part) ≡ wiring_of part
+wiring-entered rows (Interface ni) = refl
+wiring-entered rows (Router router) = refl
+wiring-entered rows (TableRouter router) =
+    ap (λ (router : TableRouterState). RouterWiring router.incoming router.outgoing)
     (with_table-kept rows router)
-frame-entered rows (Stage stage) = refl
+wiring-entered rows (Stage stage) = refl
 
 way-entered : (rows : List RouterRow) (part : Part) → way_of (entered rows part) ≡ way_of part
 way-entered rows (Interface ni) = refl
@@ -33,10 +34,11 @@ entries-entered rows (Router router) = refl
 entries-entered rows (TableRouter router) = refl
 entries-entered rows (Stage stage) = refl
 
--- So the frames stay, how flits are passed on alike in every cycle, and the slot tables of the interfaces.
-pub frames-entered : (rows : List RouterRow) (parts : List Part)
-    → map frame_of (with_rows rows parts) ≡ map frame_of parts
-frames-entered rows = views-map frame_of (entered rows) (frame-entered rows)
+-- So the wirings stay, how flits are passed on alike in every cycle, and the slot tables of the
+-- interfaces.
+pub wirings-entered : (rows : List RouterRow) (parts : List Part)
+    → map wiring_of (with_rows rows parts) ≡ map wiring_of parts
+wirings-entered rows = views-map wiring_of (entered rows) (wiring-entered rows)
 
 pub ways-entered : (rows : List RouterRow) (parts : List Part)
     → map way_of (with_rows rows parts) ≡ map way_of parts
@@ -64,4 +66,4 @@ queue_of-entered rows (part ∷ parts) (suc number) queue = queue_of-entered row
 pub IsComponents-entered : (rows : List RouterRow) (all : ComponentsState) → IsComponents all
     → IsComponents (record all { parts = with_rows rows all.parts })
 IsComponents-entered rows all =
-    IsComponents-framed (with_rows rows all.parts) all (frames-entered rows all.parts)
+    IsComponents-wired_for (with_rows rows all.parts) all (wirings-entered rows all.parts)

@@ -13,14 +13,14 @@ use Rattle.aeth_router.proofs.OnwardLemmas.{arrival_at-none}
 use Rattle.aeth_router.specs.{Onward.Nothing, Passing.forwarded, Passing.has_table}
 use Rattle.aeth_router.specs.{declared.part.Part.Part}
 use Rattle.aeth_components.specs.{Components.part_count, Ends.AreEnds, Ends.AreEndsOf}
-use Rattle.aeth_components.specs.{Ends.is_interface, Frames.frame_of, Making.new_parts}
+use Rattle.aeth_components.specs.{Ends.is_interface, Wirings.wiring_of, Making.new_parts}
 use Rattle.aeth_components.specs.{Passing.AreForwarded, Passing.way_of, Ready.AreReady}
-use Rattle.aeth_components.specs.{Turns.flits_on, declared.ends.Ends.Ends}
+use Rattle.aeth_components.specs.{FlitsOnWires.flits_on, declared.ends.Ends.Ends}
 use Rattle.aeth_components.specs.{declared.making.RouterKind.RouterKind}
 use Rattle.aeth_components.specs.{declared.making.RouterKind.TheVariants.ByHeader}
 use Rattle.aeth_components.specs.{declared.turns.Turns.Turns}
 use Rattle.aeth_components.proofs.EndLemmas.{IsAtEnds-receivers, IsAtEnds-senders}
-use Rattle.aeth_components.proofs.KindLemmas.{frames-kind}
+use Rattle.aeth_components.proofs.KindLemmas.{wirings-kind}
 use Rattle.aeth_components.proofs.MadeLemmas.{Made, IsInterface, IsRouter, IsStage}
 use Rattle.aeth_components.proofs.MadeLemmas.{length-new_parts, made-at, part-at}
 use Rattle.aeth_components.proofs.ReceivedLemmas.{AreReceived-new}
@@ -29,13 +29,13 @@ use Rattle.aeth_components.proofs.WayLemmas.{forwarded-empty}
 module _ (chip : ChipData) (rooms : List ℕ) where
   -- The interfaces are the first components.
   made-first : (i : ℕ) (part : Part) → Made chip rooms i part → i < length chip.nis
-      → is_interface (frame_of part) ≡ true
+      → is_interface (wiring_of part) ≡ true
   made-first i part (IsInterface within is) less = rw is refl
   made-first i part (IsRouter r within place is) less = absurd (omega (arith, place, less))
   made-first i part (IsStage k few place stage) less = absurd (omega (arith, place, less))
 
   made-others : (i : ℕ) (part : Part) → Made chip rooms i part → length chip.nis ≤ i
-      → is_interface (frame_of part) ≡ false
+      → is_interface (wiring_of part) ≡ false
   made-others i part (IsInterface within is) over = absurd (omega (arith, within, over))
   made-others i part (IsRouter r within place is) over = rw is refl
   made-others i part (IsStage k few place stage) over = rw stage.is refl
@@ -57,7 +57,7 @@ module _ (chip : ChipData) (rooms : List ℕ) where
 
 module _ (chip : ChipData) (is_chip : IsChip chip) (rooms : List ℕ) where
   AreEnds-new : (ends : Ends) → AreEndsOf chip ends
-      → AreEnds (map frame_of (new_parts chip ByHeader rooms)) (wires_of chip.links) ends
+      → AreEnds (map wiring_of (new_parts chip ByHeader rooms)) (wires_of chip.links) ends
   AreEnds-new ends are =
       let parts = are.parts in
       let interfaces = are.interfaces in
@@ -74,16 +74,16 @@ module _ (chip : ChipData) (is_chip : IsChip chip) (rooms : List ℕ) where
           few_wires = are.few_wires;
           few_parts = omega (arith, parts, few);
         };
-        count = parts ∙ sym (length-map (new_parts chip ByHeader rooms) frame_of
+        count = parts ∙ sym (length-map (new_parts chip ByHeader rooms) wiring_of
             ∙ length-new_parts chip rooms);
         sends = IsAtEnds-senders chip is_chip rooms ends.senders.items are.senders;
         receives = IsAtEnds-receivers chip is_chip rooms ends.receivers.items are.receivers;
         received = AreReceived-new chip is_chip rooms;
-        first = λ i frame at less.
-            let made = made-at chip is_chip rooms i frame at in
+        first = λ i wiring at less.
+            let made = made-at chip is_chip rooms i wiring at in
             rw made.2 (made-first chip rooms i made.0 made.1 (omega (arith, less, interfaces)));
-        others = λ i frame at over.
-            let made = made-at chip is_chip rooms i frame at in
+        others = λ i wiring at over.
+            let made = made-at chip is_chip rooms i wiring at in
             rw made.2 (made-others chip rooms i made.0 made.1 (omega (arith, over, interfaces)));
       }
 
@@ -104,11 +104,11 @@ forwarded-none (Some i) parts wires out wire empty =
 
 -- So components are ready where no wire has a flit, and nothing has been passed on.
 pub AreReady-none : (parts : List Part) (count : ℕ) (turns : Turns)
-    → AreEnds (map frame_of parts) count turns.ends → turns.flits ≡ 0
+    → AreEnds (map wiring_of parts) count turns.ends → turns.flits ≡ 0
     → turns.onward ≡ replicate count Nothing
     → AreForwarded (map way_of parts) turns.forwarding.items
     → (turns.has_tables ≡ false → All (λ way. way.by_table ≡ false) (map way_of parts))
-    → AreReady (map frame_of parts) (map way_of parts) (replicate count None) turns
+    → AreReady (map wiring_of parts) (map way_of parts) (replicate count None) turns
 AreReady-none parts count turns ends flits onward noted tables =
     let empty = flit_on-replicate count in
     let size = length-replicate {A = Option Flit} count None in
@@ -134,9 +134,11 @@ module _ (chip : ChipData) (is_chip : IsChip chip) (kind : RouterKind) (rooms : 
       → turns.onward ≡ replicate (wires_of chip.links) Nothing
       → AreForwarded (map way_of (new_parts chip kind rooms)) turns.forwarding.items
       → (turns.has_tables ≡ false → kind ≡ ByHeader)
-      → AreReady (map frame_of (new_parts chip kind rooms)) (map way_of (new_parts chip kind rooms))
+      → AreReady (map wiring_of (new_parts chip kind rooms))
+      (map way_of (new_parts chip kind rooms))
       (replicate (wires_of chip.links) None) turns
   AreReady-new turns are flits onward noted by_header =
       AreReady-none (new_parts chip kind rooms) (wires_of chip.links) turns
-      (rw (frames-kind chip kind rooms) (AreEnds-new chip is_chip rooms turns.ends are)) flits onward
+      (rw (wirings-kind chip kind rooms) (AreEnds-new chip is_chip rooms turns.ends are)) flits
+      onward
       noted (λ none. rw (by_header none) (ways-new chip rooms))

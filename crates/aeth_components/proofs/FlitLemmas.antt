@@ -3,7 +3,7 @@ use Rattle.std.proofs.Common.{ℕ, zero, suc, ◌≡◌, ◌+◌, ◌≤◌, ref
 use Rattle.std.proofs.Common.{take, Option, Some, None, IsSome, is_some}
 use Rattle.aeth_base.proofs.Lists.{count_by-no, count_by-yes}
 use Rattle.aeth_clocked.specs.{Wires.flit_on, declared.flit.Flit.Flit}
-use Rattle.aeth_components.specs.Turns.{flits_on}
+use Rattle.aeth_components.specs.FlitsOnWires.{flits_on}
 
 -- One wire more with a flit.
 pub flits_on-more : (wires : List (Option Flit)) (wire : ℕ) → IsSome (flit_on wires wire)

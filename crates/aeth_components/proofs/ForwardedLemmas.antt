@@ -17,13 +17,13 @@ use Rattle.aeth_components.proofs.LandedLemmas.{Lands, receiver-at}
 use Rattle.aeth_components.proofs.PassedLemmas.{receiver}
 use Rattle.aeth_components.proofs.OwnLemmas.{output-below}
 use Rattle.aeth_components.proofs.WayLemmas.{forwarded-at, forwarded-empty, forwarded-output}
-use Rattle.aeth_components.specs.{Ends.AreEnds, Ends.is_interface, Frames.IsWired, Frames.frame_of}
-use Rattle.aeth_components.specs.{Passing.AreForwarded, Passing.forwarded_from, Passing.way_of}
-use Rattle.aeth_components.specs.{declared.ends.Ends.Ends}
+use Rattle.aeth_components.specs.{Ends.AreEnds, Ends.is_interface, Wirings.IsWired}
+use Rattle.aeth_components.specs.{Wirings.wiring_of, Passing.AreForwarded, Passing.forwarded_from}
+use Rattle.aeth_components.specs.{Passing.way_of, declared.ends.Ends.Ends}
 
 -- An interface passes nothing on.
 forwarded-by-interface : (part : Part) (out : ℕ) (flit : Option Flit)
-    → is_interface (frame_of part) ≡ true → forwarded part out flit ≡ None
+    → is_interface (wiring_of part) ≡ true → forwarded part out flit ≡ None
 forwarded-by-interface (Interface ni) out flit is = refl
 forwarded-by-interface (Router router) out flit is = absurd (cc is)
 forwarded-by-interface (TableRouter router) out flit is = absurd (cc is)
@@ -59,8 +59,8 @@ module _ (parts : List Part) (wires : List (Option Flit)) (ends : Ends) where
       (subst (CameFrom (sent out) (suc wire)) (sym (is out below))
       (CameFrom-next (sent out) wire (arrival_at old out) (came out below)))
 
-  module _ (wired : IsWired (map frame_of parts) (length wires))
-      (are : AreEnds (map frame_of parts) (length wires) ends) where
+  module _ (wired : IsWired (map wiring_of parts) (length wires))
+      (are : AreEnds (map wiring_of parts) (length wires) ends) where
     -- What an empty wire has goes nowhere.
     sent-nothing : (wire out : ℕ) → wire < length wires → flit_on wires wire ≡ None
         → sent out wire ≡ None
@@ -141,4 +141,4 @@ module _ {parts : List Part} {wires : List (Option Flit)} {ends : Ends} {wire nu
       ForwardedTo-step parts wires ends onward onward wire came (λ out below.
       ap (λ (flit : Option Flit). arrived flit (arrival_at onward out))
       (sym (sym (sent-there out) ∙ forwarded-by-interface part out (flit_on wires wire)
-      (lands.are.first number (frame_of part) (map-at frame_of parts number part at) less))))
+      (lands.are.first number (wiring_of part) (map-at wiring_of parts number part at) less))))

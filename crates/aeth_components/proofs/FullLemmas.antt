@@ -8,12 +8,13 @@ use Rattle.aeth_ni.specs.{Interface.changed, Interface.queue_at, Limits.waiting_
 use Rattle.aeth_ni.specs.{Queue.QueueState, Queue.empty_queue}
 use Rattle.aeth_router.specs.declared.part.Part.{Part}
 use Rattle.aeth_router.specs.declared.part.Part.TheVariants.{Interface, Router, Stage, TableRouter}
-use Rattle.aeth_components.specs.{declared.lane.ChannelEnd.ChannelEnd, declared.lane.Lane.Lane}
-use Rattle.aeth_components.specs.{declared.handing.Handing.Handing, Changes.on_interface}
-use Rattle.aeth_components.specs.{Changes.told_by, Changes.with_part, Lanes.is_open, Phases.left_of}
-use Rattle.aeth_components.specs.{Phases.refilled, Queues.filled, Queues.fits, Handing.IsFull}
-use Rattle.aeth_components.specs.{Handing.IsResting, Handing.room_left}
-use Rattle.aeth_components.proofs.TurnLemmas.{handed_on-none, refilled-closed, refilled-none}
+use Rattle.aeth_components.specs.{declared.channel_state.ChannelEnd.ChannelEnd}
+use Rattle.aeth_components.specs.{declared.channel_state.ChannelState.ChannelState}
+use Rattle.aeth_components.specs.{declared.enqueuing.Enqueuing.Enqueuing, Changes.on_interface}
+use Rattle.aeth_components.specs.{Changes.told_by, Changes.with_part, ChannelStates.is_open}
+use Rattle.aeth_components.specs.{Phases.left_of, Phases.refilled, Queues.filled, Queues.fits}
+use Rattle.aeth_components.specs.{Enqueuing.IsFull, Enqueuing.IsResting, Enqueuing.room_left}
+use Rattle.aeth_components.proofs.TurnLemmas.{enqueued_by-none, refilled-closed, refilled-none}
 use Rattle.aeth_components.proofs.TurnLemmas.{refilled-open}
 
 -- Where words are put into one queue, there is no more room in any.
@@ -50,16 +51,19 @@ room-parts words (part ∷ parts) (suc number) zero queue too = omega arith
 room-parts words (part ∷ parts) (suc number) (suc other) queue too =
     room-parts words parts number other queue too
 
-pub IsFull-refilled : (words : List ℕ) (cycle : ℕ) (parts : List Part) (lane : Lane) (end : ChannelEnd)
-    → IsFull parts end → IsFull (refilled words cycle parts lane).0 end
-IsFull-refilled words cycle parts lane end full = elim (cases_Bool (is_open lane cycle)) [
-  | inl opened ↦
-      rw opened (
-      let less = room-parts (left_of words lane) parts lane.sender.ni.0 end.ni.0 lane.sender.queue
-      end.queue in
-      omega (arith, less, full))
-  | inr closed ↦ rw closed full
-]
+pub IsFull-refilled : (words : List ℕ) (cycle : ℕ) (parts : List Part)
+    (channel_state : ChannelState) (end : ChannelEnd)
+    → IsFull parts end → IsFull (refilled words cycle parts channel_state).0 end
+IsFull-refilled words cycle parts channel_state end full =
+    elim (cases_Bool (is_open channel_state cycle)) [
+      | inl opened ↦
+          rw opened (
+          let less = room-parts (left_of words channel_state) parts channel_state.sender.ni.0 end.ni.0
+          channel_state.sender.queue
+          end.queue in
+          omega (arith, less, full))
+      | inr closed ↦ rw closed full
+    ]
 
 -- No more words fit than there is room for.
 fits-room : (words : List ℕ) (queue : QueueState) → fits words queue ≤ room_left queue
@@ -80,18 +84,18 @@ found-room words queue None = omega arith
 found-room words queue (Some part) = told-room words queue part
 
 -- A channel whose source queue is full is left alone.
-pub refilled-rests : (words : List ℕ) (cycle : ℕ) (parts : List Part) (handing : Handing)
-    (number : ℕ) (lane : Lane) → IsResting parts handing number lane
-    → refilled words cycle parts lane ≡ (parts, lane)
-refilled-rests words cycle parts handing number lane rests = elim rests [
-  | inl none ↦ refilled-none words cycle parts lane none
-  | inr (full, waits) ↦ elim (cases_Bool (is_open lane cycle)) [
+pub refilled-rests : (words : List ℕ) (cycle : ℕ) (parts : List Part) (enqueuing : Enqueuing)
+    (number : ℕ) (channel_state : ChannelState) → IsResting parts enqueuing number channel_state
+    → refilled words cycle parts channel_state ≡ (parts, channel_state)
+refilled-rests words cycle parts enqueuing number channel_state rests = elim rests [
+  | inl none ↦ refilled-none words cycle parts channel_state none
+  | inr (full, waits) ↦ elim (cases_Bool (is_open channel_state cycle)) [
     | inl opened ↦
-        refilled-open words cycle parts lane opened
-        ∙ handed_on-none (left_of words lane) parts lane (
-        let told = found-room (left_of words lane) lane.sender.queue
-        (slice_get parts lane.sender.ni.0) in
+        refilled-open words cycle parts channel_state opened
+        ∙ enqueued_by-none (left_of words channel_state) parts channel_state (
+        let told = found-room (left_of words channel_state) channel_state.sender.queue
+        (slice_get parts channel_state.sender.ni.0) in
         omega (arith, told, full))
-    | inr closed ↦ refilled-closed words cycle parts lane closed
+    | inr closed ↦ refilled-closed words cycle parts channel_state closed
   ]
 ]

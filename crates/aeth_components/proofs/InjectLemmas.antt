@@ -11,20 +11,25 @@ use Rattle.aeth_base.proofs.Lists.{same_list, slice_get-slice_set_other, slice_g
 use Rattle.aeth_base.specs.Marks.{bit_of}
 use Rattle.aeth_clocked.specs.{Wires.Drives, Wires.flit_on, declared.flit.Flit.Flit}
 use Rattle.aeth_router.specs.{Part.after_of, Part.emit_of, Part.outputs_of, declared.part.Part.Part}
-use Rattle.aeth_components.specs.{declared.injecting.Injecting.Injecting, Frames.IsWired}
-use Rattle.aeth_components.specs.{Frames.frame_of, Injecting.AreInjecting, SlotMarks.marks_at}
-use Rattle.aeth_components.specs.{Handing.HasWaitingPlaces, Handing.Wakes, Seen.interfaces_driven}
-use Rattle.aeth_components.specs.{Sending.Injects, Sending.IsSending, Turns.AreSendersMarked}
-use Rattle.aeth_components.specs.{Turns.sends_own, declared.handing.Handing.Handing}
+use Rattle.aeth_components.specs.{declared.injecting.Injecting.Injecting, Wirings.IsWired}
+use Rattle.aeth_components.specs.{Wirings.wiring_of, Injecting.AreInjecting, SlotMarks.marks_at}
+use Rattle.aeth_components.specs.{Enqueuing.HasWaitingPlaces, Enqueuing.MarksActive}
+use Rattle.aeth_components.specs.{Seen.interfaces_driven, Sending.Injects, Sending.IsSending}
+use Rattle.aeth_components.specs.{FlitsOnWires.AreSendersMarked, FlitsOnWires.sends_own}
+use Rattle.aeth_components.specs.{declared.enqueuing.Enqueuing.Enqueuing}
 use Rattle.aeth_components.proofs.InjectingLemmas.{AreInjecting-sends}
-use Rattle.aeth_components.proofs.FrameLemmas.{AreDisjoint-parts}
+use Rattle.aeth_components.proofs.WiringLemmas.{AreDisjoint-parts}
 use Rattle.aeth_components.proofs.OwnLemmas.{after-sends, flit_on-other, flit_on-own}
 use Rattle.aeth_components.proofs.OwnLemmas.{option_map-still, output-below, own_driven, still-mute}
-use Rattle.aeth_components.proofs.WakingLemmas.{Wakes-more, Wakes-none, Wakes-same}
+use Rattle.aeth_components.proofs.MarkingActiveLemmas.{MarksActive-more, MarksActive-none}
+use Rattle.aeth_components.proofs.MarkingActiveLemmas.{MarksActive-same}
 
--- The components below a number have driven what they send of their own, and who waits there is woken.
-pub record InjectedTo (cycle : ℕ) (parts : List Part) (wires : List (Option Flit)) (handing : Handing)
-    (steps to : ℕ) (now_parts : List Part) (now_wires : List (Option Flit)) (now_handing : Handing)
+-- The components below a number have driven what they send of their own, and who waits there is
+-- marked active.
+pub record InjectedTo (cycle : ℕ) (parts : List Part) (wires : List (Option Flit))
+    (enqueuing : Enqueuing)
+    (steps to : ℕ) (now_parts : List Part) (now_wires : List (Option Flit))
+    (now_enqueuing : Enqueuing)
     (now_steps : ℕ) : Type 0 where
   pub size : length now_parts ≡ length parts
   pub driven : (number : ℕ) → number < to
@@ -37,35 +42,39 @@ pub record InjectedTo (cycle : ℕ) (parts : List Part) (wires : List (Option Fl
   pub other : (number wire : ℕ) (part : Part) → slice_get parts number ≡ Some part
       → (number < to → sends_own cycle part ≡ false) → outputs_of part wire ≡ true
       → flit_on now_wires wire ≡ flit_on wires wire
-  pub woken : Wakes (λ number. (number < to) × IsSending cycle parts number) handing now_handing
+  pub marked_active : MarksActive (λ number. (number < to) × IsSending cycle parts number) enqueuing
+      now_enqueuing
   pub few : now_steps ≤ steps + count_by (sends_own cycle) (take to parts)
 
 -- None yet.
 pub InjectedTo-first : (cycle : ℕ) (parts : List Part) (wires : List (Option Flit))
-    (handing : Handing) (steps : ℕ) → HasWaitingPlaces handing
-    → InjectedTo cycle parts wires handing steps 0 parts wires handing steps
-InjectedTo-first cycle parts wires handing steps places = record {
+    (enqueuing : Enqueuing) (steps : ℕ) → HasWaitingPlaces enqueuing
+    → InjectedTo cycle parts wires enqueuing steps 0 parts wires enqueuing steps
+InjectedTo-first cycle parts wires enqueuing steps places = record {
   size = refl;
   driven = λ number below. absurd (omega (arith, below));
   behind = λ number past. refl;
   links = refl;
   own = λ number wire part at below. absurd (omega (arith, below));
   other = λ number wire part at rest is. refl;
-  woken = Wakes-none (λ number. (number < 0) × IsSending cycle parts number) handing places
+  marked_active =
+      MarksActive-none (λ number. (number < 0) × IsSending cycle parts number) enqueuing places
       (λ number is. let below = is.0 in omega (arith, below));
   few = omega arith;
 }
 
-module _ {cycle : ℕ} {parts : List Part} {wires : List (Option Flit)} {handing : Handing}
-    {steps to : ℕ} {now_parts : List Part} {now_wires : List (Option Flit)} {now_handing : Handing}
+module _ {cycle : ℕ} {parts : List Part} {wires : List (Option Flit)} {enqueuing : Enqueuing}
+    {steps to : ℕ} {now_parts : List Part} {now_wires : List (Option Flit)} {now_enqueuing :
+    Enqueuing}
     {now_steps : ℕ}
-    (injected : InjectedTo cycle parts wires handing steps to now_parts now_wires now_handing
+    (injected : InjectedTo cycle parts wires enqueuing steps to now_parts now_wires now_enqueuing
     now_steps) where
   -- Those that are passed over send nothing.
   pub InjectedTo-until : (next : ℕ) → to ≤ next
       → ((number : ℕ) (part : Part) → slice_get parts number ≡ Some part → to ≤ number
       → number < next → sends_own cycle part ≡ false)
-      → InjectedTo cycle parts wires handing steps next now_parts now_wires now_handing now_steps
+      → InjectedTo cycle parts wires enqueuing steps next now_parts now_wires now_enqueuing
+      now_steps
   InjectedTo-until next further mute =
       record {
         size = injected.size;
@@ -84,14 +93,14 @@ module _ {cycle : ℕ} {parts : List Part} {wires : List (Option Flit)} {handing
         ];
         other = λ number wire part at rest.
             injected.other number wire part at (λ less. rest (omega (arith, less, further)));
-        woken = Wakes-same (λ number. (number < next) × IsSending cycle parts number)
-            (λ number. (number < to) × IsSending cycle parts number) handing now_handing
+        marked_active = MarksActive-same (λ number. (number < next) × IsSending cycle parts number)
+            (λ number. (number < to) × IsSending cycle parts number) enqueuing now_enqueuing
             (λ number is. elim (cases_lt number to) [
               | inl less ↦ (less, is.1)
               | inr over ↦
                   let own = is.1 in
                   absurd (cc (sym (mute number own.0 own.1 over is.0) ∙ own.2))
-            ]) injected.woken;
+            ]) injected.marked_active;
         few =
             (let before = injected.few in
             let more = sum_by-take-le (λ part. cond (sends_own cycle part) 1 0) (take next parts) to in
@@ -104,7 +113,8 @@ module _ {cycle : ℕ} {parts : List Part} {wires : List (Option Flit)} {handing
       → slot ≡ cycle % length injecting.slots → to ≤ next
       → ((number : ℕ) → to ≤ number → number < next
       → bit_of (marks_at injecting.slots slot) number ≡ 1 → ⊥)
-      → InjectedTo cycle parts wires handing steps next now_parts now_wires now_handing now_steps
+      → InjectedTo cycle parts wires enqueuing steps next now_parts now_wires now_enqueuing
+      now_steps
   InjectedTo-passed injecting are slot next is further none =
       let marks = marks_at injecting.slots slot in
       let senders : AreSendersMarked cycle now_parts marks =
@@ -126,14 +136,15 @@ module _ {cycle : ℕ} {parts : List Part} {wires : List (Option Flit)} {handing
 
   -- One more sends, and drives it.
   pub InjectedTo-more : {part driven_part : Part} {new_wires : List (Option Flit)}
-      {new_handing : Handing} {new_steps : ℕ} → IsWired (map frame_of parts) (length wires)
+      {new_enqueuing : Enqueuing} {new_steps : ℕ} → IsWired (map wiring_of parts) (length wires)
       → slice_get parts to ≡ Some part → sends_own cycle part ≡ true
       → driven_part ≡ after_of part cycle
       → Drives (outputs_of part) (emit_of part cycle) now_wires new_wires
-      → Wakes (λ other. other ≡ to) now_handing new_handing → new_steps ≡ now_steps + 1
-      → InjectedTo cycle parts wires handing steps (to + 1) (slice_set now_parts to driven_part)
-      new_wires new_handing new_steps
-  InjectedTo-more {part} {driven_part} {new_wires} {new_handing} wired there sends is drives wakes
+      → MarksActive (λ other. other ≡ to) now_enqueuing new_enqueuing → new_steps ≡ now_steps + 1
+      → InjectedTo cycle parts wires enqueuing steps (to + 1) (slice_set now_parts to driven_part)
+      new_wires new_enqueuing new_steps
+  InjectedTo-more {part} {driven_part} {new_wires} {new_enqueuing} wired there sends is drives
+      marks_active
       tick =
       let within = slice_get_within parts to part there in
       let size = injected.size in
@@ -190,9 +201,11 @@ module _ {cycle : ℕ} {parts : List Part} {wires : List (Option Flit)} {handing
             cc (sym (rest (omega (arith, same)))
             ∙ ap (sends_own cycle) (alike number other at same) ∙ sends))
             ∙ injected.other number wire other at (λ less. rest (omega (arith, less))) own;
-        woken = Wakes-more (λ number. (number < to + 1) × IsSending cycle parts number)
-            (λ number. (number < to) × IsSending cycle parts number) to handing now_handing new_handing
-            injected.woken wakes
+        marked_active =
+            MarksActive-more (λ number. (number < to + 1) × IsSending cycle parts number)
+            (λ number. (number < to) × IsSending cycle parts number) to enqueuing now_enqueuing
+            new_enqueuing
+            injected.marked_active marks_active
             (λ number among. elim (cases_eq number to) [
               | inl same ↦ inr same
               | inr away ↦ let below = among.0 in inl (omega (arith, below, away), among.1)
@@ -231,10 +244,10 @@ module _ {cycle : ℕ} {parts : List Part} {wires : List (Option Flit)} {handing
       other = λ number wire part at rest. injected.other number wire part at (λ less. rest);
     }
 
-    pub InjectedTo-woken : Wakes (IsSending cycle parts) handing now_handing
-    InjectedTo-woken = Wakes-same (IsSending cycle parts)
-        (λ number. (number < to) × IsSending cycle parts number) handing now_handing
+    pub InjectedTo-marked_active : MarksActive (IsSending cycle parts) enqueuing now_enqueuing
+    InjectedTo-marked_active = MarksActive-same (IsSending cycle parts)
+        (λ number. (number < to) × IsSending cycle parts number) enqueuing now_enqueuing
         (λ number own. elim (cases_lt number to) [
           | inl less ↦ (less, own)
           | inr past ↦ absurd (cc (sym (mute number own.0 own.1 past) ∙ own.2))
-        ]) injected.woken
+        ]) injected.marked_active

@@ -18,16 +18,16 @@ use Rattle.aeth_router.specs.declared.part.Part.TheVariants.{Interface, Router, 
 use Rattle.aeth_components.specs.declared.event.Event.{Event}
 use Rattle.aeth_components.specs.declared.event.Event.TheVariants.{Halt, Finish, Change}
 use Rattle.aeth_components.specs.declared.injecting.Injecting.{Injecting}
-use Rattle.aeth_components.specs.declared.lane.ChannelEnd.{ChannelEnd}
+use Rattle.aeth_components.specs.declared.channel_state.ChannelEnd.{ChannelEnd}
 use Rattle.aeth_components.specs.Changes.{event_done, happened, on_interface, with_part}
 use Rattle.aeth_components.specs.Events.{IsDoable, event_part}
-use Rattle.aeth_components.specs.Frames.{Frame}
+use Rattle.aeth_components.specs.Wirings.{Wiring}
 use Rattle.aeth_components.specs.Injecting.{AreEntered, AreInjecting, HasPlaces, IsEntered}
 use Rattle.aeth_components.specs.Injecting.{NotesEvent, entries_of, entry_at, may_send, table_at}
 use Rattle.aeth_components.specs.SlotMarks.{MarksMore, marks_at}
 use Rattle.aeth_components.specs.Switching.{SlotWrite, Touches, Writes, entry_of, event_end}
 use Rattle.aeth_components.specs.Switching.{slot_write, slot_written}
-use Rattle.aeth_components.specs.Turns.{AreSendersMarked, sends_own}
+use Rattle.aeth_components.specs.FlitsOnWires.{AreSendersMarked, sends_own}
 use Rattle.aeth_components.specs.View.{queue_in}
 use Rattle.aeth_components.proofs.PartLemmas.{length-with_part}
 use Rattle.aeth_components.proofs.SlotLemmas.{entry_of-happened_other, entry_of-happened_own}
@@ -69,8 +69,9 @@ HasPlaces-part parts number injecting are within =
     (omega (arith, within, tables)) are.tables.places
 
 -- So there is for that of an event.
-pub HasPlaces-event : {event : Event} {frames : List Frame} (parts : List Part) (injecting : Injecting)
-    → IsDoable frames event → length frames ≡ length parts → AreInjecting parts injecting
+pub HasPlaces-event : {event : Event} {wirings : List Wiring} (parts : List Part)
+    (injecting : Injecting)
+    → IsDoable wirings event → length wirings ≡ length parts → AreInjecting parts injecting
     → HasPlaces (event_part event + 1) injecting
 HasPlaces-event {event} parts injecting doable count are =
     let part = doable.part in
@@ -281,14 +282,15 @@ module _ (event : Event) (parts : List Part) (old new : Injecting) (notes : Note
       (entry-noted parts old are.tables number slot queue
       (sym (entry_of-happened_other parts event number slot none) ∙ is)))
 
-  -- The queue that it changes is woken, and any other is as it was.
+  -- The queue that it changes is marked active, and any other is as it was.
   marked-kept : (number slot queue : ℕ) → entry_of parts number slot ≡ Some queue
       → may_send (happened parts event) number queue ≡ true
       → bit_of (marks_at new.slots slot) number ≡ 1
   marked-kept number slot queue is sends =
       by-end event number queue (event_end event) refl
       (λ end ends there here.
-      rw there (notes.woken end slot ends (entry-below parts old are.tables number slot queue is)
+      rw there (notes.marked_active end slot ends
+      (entry-below parts old are.tables number slot queue is)
       (rw (there, here) at (entry-noted parts old are.tables number slot queue is))))
       (λ none. notes.more.kept number slot (are.marked number slot queue is
       (ap (λ (state : QueueState). is_some (emitted state))
@@ -335,7 +337,7 @@ NotesEvent-cleared event write old new writes none most slots room cleared kept 
   room = room;
   written = λ found queue is entry below.
       absurd (cc (sym cleared ∙ ap (λ (some : SlotWrite). some.entry) (same_Some write found (sym writes ∙ is)) ∙ entry));
-  woken = λ end slot is below entered. absurd (cc (sym none ∙ is));
+  marked_active = λ end slot is below entered. absurd (cc (sym none ∙ is));
   kept = λ number slot queue below apart entered. kept number slot queue (omega (arith, below, most))
       (elim (cases_eq number write.ni.0) [
         | inr away ↦ inl away

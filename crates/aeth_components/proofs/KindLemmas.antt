@@ -1,4 +1,4 @@
--- The components of a chip with routers of either kind have the same frames and slot tables.
+-- The components of a chip with routers of either kind have the same wirings and slot tables.
 use Rattle.std.proofs.Common.{ℕ, ◌≡◌, ◌∙◌, refl, sym, ap, List, [], ◌∷◌, ◌++◌, length, map}
 use Rattle.std.proofs.lemmas.List.{length-map, map-append}
 use Rattle.std.specs.List.{range_with_len}
@@ -7,7 +7,7 @@ use Rattle.aeth_router.specs.declared.part.Part.{Part}
 use Rattle.aeth_components.specs.declared.making.RouterKind.{RouterKind}
 use Rattle.aeth_components.specs.declared.making.RouterKind.TheVariants.{ByHeader, ByTable}
 use Rattle.aeth_components.specs.Components.{part_count}
-use Rattle.aeth_components.specs.Frames.{frame_of}
+use Rattle.aeth_components.specs.Wirings.{wiring_of}
 use Rattle.aeth_components.specs.Injecting.{entries_of}
 use Rattle.aeth_components.specs.Making.{made_interface, made_router, made_stages, new_parts}
 use Rattle.aeth_components.proofs.MadeLemmas.{length-new_parts}
@@ -44,10 +44,10 @@ module _ {X : Type 0} (view : Part → X) (chip : ChipData) (rooms : List ℕ) (
       ∙ sym (views-apart ByHeader)
 
 -- A router has the same wires whatever its kind, and no slot table.
-frame-kind : (chip : ChipData) (kind : RouterKind) (r : ℕ)
-    → frame_of (made_router chip kind r) ≡ frame_of (made_router chip ByHeader r)
-frame-kind chip ByHeader r = refl
-frame-kind chip ByTable r = refl
+wiring-kind : (chip : ChipData) (kind : RouterKind) (r : ℕ)
+    → wiring_of (made_router chip kind r) ≡ wiring_of (made_router chip ByHeader r)
+wiring-kind chip ByHeader r = refl
+wiring-kind chip ByTable r = refl
 
 entries-kind : (chip : ChipData) (kind : RouterKind) (r : ℕ)
     → entries_of (made_router chip kind r) ≡ entries_of (made_router chip ByHeader r)
@@ -55,10 +55,10 @@ entries-kind chip ByHeader r = refl
 entries-kind chip ByTable r = refl
 
 module _ (chip : ChipData) (kind : RouterKind) (rooms : List ℕ) where
-  -- The frames of the components of a chip don't depend on the kind of its routers.
-  pub frames-kind : map frame_of (new_parts chip kind rooms)
-      ≡ map frame_of (new_parts chip ByHeader rooms)
-  frames-kind = views-kind frame_of chip rooms kind (frame-kind chip kind)
+  -- The wirings of the components of a chip don't depend on the kind of its routers.
+  pub wirings-kind : map wiring_of (new_parts chip kind rooms)
+      ≡ map wiring_of (new_parts chip ByHeader rooms)
+  wirings-kind = views-kind wiring_of chip rooms kind (wiring-kind chip kind)
 
   -- Nor do their slot tables.
   pub tables-kind : map entries_of (new_parts chip kind rooms)
@@ -68,5 +68,5 @@ module _ (chip : ChipData) (kind : RouterKind) (rooms : List ℕ) where
   -- Nor does their number.
   pub length-kind : length (new_parts chip kind rooms) ≡ part_count chip
   length-kind =
-      sym (length-map (new_parts chip kind rooms) frame_of) ∙ ap length frames-kind
-      ∙ length-map (new_parts chip ByHeader rooms) frame_of ∙ length-new_parts chip rooms
+      sym (length-map (new_parts chip kind rooms) wiring_of) ∙ ap length wirings-kind
+      ∙ length-map (new_parts chip ByHeader rooms) wiring_of ∙ length-new_parts chip rooms

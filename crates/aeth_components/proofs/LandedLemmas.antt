@@ -10,9 +10,10 @@ use Rattle.aeth_ni.specs.Interface.{InterfaceState}
 use Rattle.aeth_router.specs.declared.part.Part.{Part}
 use Rattle.aeth_router.specs.declared.part.Part.TheVariants.{Interface, Router, Stage, TableRouter}
 use Rattle.aeth_components.specs.{Changes.on_interface, Counting.counted_among}
-use Rattle.aeth_components.specs.{Counting.noted_among, Ends.AreEnds, Frames.IsWired}
-use Rattle.aeth_components.specs.{Frames.frame_of, Seen.flits_landed, Seen.interfaces_latched}
-use Rattle.aeth_components.specs.{Seen.landed, declared.ends.Ends.Ends, declared.lane.Lane.Lane}
+use Rattle.aeth_components.specs.{Counting.noted_among, Ends.AreEnds, Wirings.IsWired}
+use Rattle.aeth_components.specs.{Wirings.wiring_of, Seen.flits_landed, Seen.interfaces_latched}
+use Rattle.aeth_components.specs.{Seen.landed, declared.ends.Ends.Ends}
+use Rattle.aeth_components.specs.{declared.channel_state.ChannelState.ChannelState}
 use Rattle.aeth_components.proofs.ComeLemmas.{came-found, came_to, landing-same, landing_of}
 use Rattle.aeth_components.proofs.MapLemmas.{map-agree, map-apart}
 use Rattle.aeth_components.proofs.PassedLemmas.{end-of, input-of, receiver}
@@ -23,8 +24,8 @@ use Rattle.aeth_components.proofs.WalkedLemmas.{counts-agree, counts-next, notes
 -- One wire more has a flit, and a component receives there.
 pub record Lands (parts : List Part) (wires : List (Option Flit)) (ends : Ends) (wire number : ℕ)
     (flit : Flit) (old new : List (Option Flit)) : Type 0 where
-  pub wired : IsWired (map frame_of parts) (length wires)
-  pub are : AreEnds (map frame_of parts) (length wires) ends
+  pub wired : IsWired (map wiring_of parts) (length wires)
+  pub are : AreEnds (map wiring_of parts) (length wires) ends
   pub within : wire < length wires
   pub end : slice_get ends.receivers.items wire ≡ Some number
   pub has : flit_on wires wire ≡ Some flit
@@ -54,8 +55,9 @@ module _ {parts : List Part} {wires : List (Option Flit)} {ends : Ends} {wire nu
         → flit_on new ni.entering.0 ≡ flit_on old ni.entering.0
     same-past i ni at = elim (cases_eq i number) [
       | inl same ↦
-          absurd (cc (lands.are.others number (frame_of (Interface ni))
-          (map-at frame_of parts number (Interface ni) (ap (slice_get parts) (sym same) ∙ at)) over))
+          absurd (cc (lands.are.others number (wiring_of (Interface ni))
+          (map-at wiring_of parts number (Interface ni) (ap (slice_get parts) (sym same) ∙ at))
+          over))
       | inr apart ↦ same-apart i ni at apart
     ]
 
@@ -68,19 +70,23 @@ module _ {parts : List Part} {wires : List (Option Flit)} {ends : Ends} {wire nu
     came_to-past : (i : ℕ) → came_to old parts i ≡ came_to new parts i
     came_to-past i = sym (came-found old new parts i (slice_get parts i) refl (same-past i))
 
-    pub counts-past : (cycle : ℕ) (lanes : List Lane)
-        → map (counted_among (came_to old parts) cycle (interfaces_latched wires parts)) lanes
-        ≡ map (counted_among (came_to new parts) cycle (interfaces_latched wires parts)) lanes
+    pub counts-past : (cycle : ℕ) (channel_states : List ChannelState)
+        → map (counted_among (came_to old parts) cycle (interfaces_latched wires parts))
+        channel_states
+        ≡ map (counted_among (came_to new parts) cycle (interfaces_latched wires parts))
+        channel_states
     counts-past cycle =
         counts-agree cycle (interfaces_latched wires parts) (came_to old parts) (came_to new parts)
-        (λ lane. inl (came_to-past lane.receiver.ni.0))
+        (λ channel_state. inl (came_to-past channel_state.receiver.ni.0))
 
-    pub notes-past : (cycle : ℕ) (lanes : List Lane) (landings : List ℕ)
-        → fold (noted_among (came_to old parts) cycle (interfaces_latched wires parts)) landings lanes
-        ≡ fold (noted_among (came_to new parts) cycle (interfaces_latched wires parts)) landings lanes
+    pub notes-past : (cycle : ℕ) (channel_states : List ChannelState) (landings : List ℕ)
+        → fold (noted_among (came_to old parts) cycle (interfaces_latched wires parts)) landings
+        channel_states
+        ≡ fold (noted_among (came_to new parts) cycle (interfaces_latched wires parts)) landings
+        channel_states
     notes-past cycle =
         notes-agree cycle (interfaces_latched wires parts) (came_to old parts) (came_to new parts)
-        (λ lane. inl (came_to-past lane.receiver.ni.0))
+        (λ channel_state. inl (came_to-past channel_state.receiver.ni.0))
 
   -- It is one.
   module _ (less : number < ends.interfaces) where
@@ -94,14 +100,14 @@ module _ {parts : List Part} {wires : List (Option Flit)} {ends : Ends} {wire nu
           (Interface ni) lands.within at lands.end),
     )
     as-interface (Router router) at =
-        absurd (cc (lands.are.first number (frame_of (Router router))
-        (map-at frame_of parts number (Router router) at) less))
+        absurd (cc (lands.are.first number (wiring_of (Router router))
+        (map-at wiring_of parts number (Router router) at) less))
     as-interface (TableRouter router) at =
-        absurd (cc (lands.are.first number (frame_of (TableRouter router))
-        (map-at frame_of parts number (TableRouter router) at) less))
+        absurd (cc (lands.are.first number (wiring_of (TableRouter router))
+        (map-at wiring_of parts number (TableRouter router) at) less))
     as-interface (Stage stage) at =
-        absurd (cc (lands.are.first number (frame_of (Stage stage))
-        (map-at frame_of parts number (Stage stage) at) less))
+        absurd (cc (lands.are.first number (wiring_of (Stage stage))
+        (map-at wiring_of parts number (Stage stage) at) less))
 
     abbrev interface : (ni : InterfaceState) × (slice_get parts number ≡ Some (Interface ni))
         × (ni.entering.0 ≡ wire)
@@ -154,7 +160,7 @@ module _ {parts : List Part} {wires : List (Option Flit)} {ends : Ends} {wire nu
 
     -- It is as it latches these wires, and its channels are counted then.
     module _ {now : List Part} (landed_now : now ≡ flits_landed new parts) (cycle : ℕ)
-        (lanes : List Lane) where
+        (channel_states : List ChannelState) where
       latched-there : slice_get now number ≡ slice_get (interfaces_latched wires parts) number
       latched-there =
           let ni = interface.0 in
@@ -169,24 +175,29 @@ module _ {parts : List Part} {wires : List (Option Flit)} {ends : Ends} {wire nu
 
       pub counts-more
           : map (counted_among (λ i. i == number) cycle now)
-          (map (counted_among (came_to old parts) cycle (interfaces_latched wires parts)) lanes)
-          ≡ map (counted_among (came_to new parts) cycle (interfaces_latched wires parts)) lanes
+          (map (counted_among (came_to old parts) cycle (interfaces_latched wires parts))
+          channel_states)
+          ≡ map (counted_among (came_to new parts) cycle (interfaces_latched wires parts))
+          channel_states
       counts-more =
           let latched = interfaces_latched wires parts in
           counts-there cycle now latched number latched-there
-          (map (counted_among (came_to old parts) cycle latched) lanes)
+          (map (counted_among (came_to old parts) cycle latched) channel_states)
           ∙ counts-next cycle latched (came_to old parts) (came_to new parts) number came_to-before
-          came_to-here came_to-others lanes
+          came_to-here came_to-others channel_states
 
       pub notes-more : (landings : List ℕ)
           → fold (noted_among (λ i. i == number) cycle now)
-          (fold (noted_among (came_to old parts) cycle (interfaces_latched wires parts)) landings lanes)
-          (map (counted_among (came_to old parts) cycle (interfaces_latched wires parts)) lanes)
-          ≡ fold (noted_among (came_to new parts) cycle (interfaces_latched wires parts)) landings lanes
+          (fold (noted_among (came_to old parts) cycle (interfaces_latched wires parts)) landings
+          channel_states)
+          (map (counted_among (came_to old parts) cycle (interfaces_latched wires parts))
+          channel_states)
+          ≡ fold (noted_among (came_to new parts) cycle (interfaces_latched wires parts)) landings
+          channel_states
       notes-more landings =
           let latched = interfaces_latched wires parts in
           notes-there cycle now latched number latched-there
-          (map (counted_among (came_to old parts) cycle latched) lanes)
-          (fold (noted_among (came_to old parts) cycle latched) landings lanes)
+          (map (counted_among (came_to old parts) cycle latched) channel_states)
+          (fold (noted_among (came_to old parts) cycle latched) landings channel_states)
           ∙ notes-next cycle latched (came_to old parts) (came_to new parts) number came_to-before
-          came_to-here came_to-others lanes landings
+          came_to-here came_to-others channel_states landings

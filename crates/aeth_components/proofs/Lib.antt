@@ -15,7 +15,7 @@ mod FirstLemmas
 mod FlitLemmas
 mod ForwardedLemmas
 mod ForwardingLemmas
-pub mod FrameLemmas
+pub mod WiringLemmas
 mod FullLemmas
 mod HomeLemmas
 mod InjectLemmas
@@ -23,7 +23,7 @@ mod InjectingLemmas
 pub mod KeptLemmas
 pub mod KindLemmas
 mod LandedLemmas
-pub mod LaneLemmas
+pub mod ChannelStateLemmas
 mod LookUpLemmas
 pub mod MadeLemmas
 pub mod MadeParts
@@ -54,7 +54,7 @@ mod ThereLemmas
 pub mod TurnLemmas
 mod TurnsAlone
 mod WaitingLemmas
-mod WakingLemmas
+mod MarkingActiveLemmas
 mod WalkedLemmas
 mod WayLemmas
-mod WokenLemmas
+mod MarkedActiveLemmas

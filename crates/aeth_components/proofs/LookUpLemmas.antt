@@ -14,7 +14,7 @@ use Rattle.aeth_components.proofs.ArrivalLemmas.{CameFrom-more, CameFrom-same}
 use Rattle.aeth_components.proofs.PassedLemmas.{passed-at, receiver}
 use Rattle.aeth_components.proofs.WayLemmas.{forwarded-at, forwarded-by-table, forwarded-empty}
 use Rattle.aeth_components.proofs.WayLemmas.{passed-alike}
-use Rattle.aeth_components.specs.{Ends.AreEnds, Frames.IsWired, Frames.frame_of}
+use Rattle.aeth_components.specs.{Ends.AreEnds, Wirings.IsWired, Wirings.wiring_of}
 use Rattle.aeth_components.specs.{Passing.forwarded_from, Passing.passed_from, Passing.way_of}
 use Rattle.aeth_components.specs.{declared.ends.Ends.Ends}
 
@@ -92,8 +92,8 @@ module _ (parts : List Part) (wires : List (Option Flit)) (ends : Ends) (cycle :
       let same : other ≡ wire = omega (arith, since, less) in
       subst IsAlike (sym same) alike)
 
-  module _ (wired : IsWired (map frame_of parts) (length wires))
-      (are : AreEnds (map frame_of parts) (length wires) ends) where
+  module _ (wired : IsWired (map wiring_of parts) (length wires))
+      (are : AreEnds (map wiring_of parts) (length wires) ends) where
     -- All goes on alike where a component with no table receives.
     pub IsAlike-part : (i wire : ℕ) (part : Part) → slice_get parts i ≡ Some part
         → slice_get ends.receivers.items wire ≡ Some i → has_table part ≡ false → IsAlike wire

@@ -17,13 +17,13 @@ use Rattle.aeth_chip.proofs.NodeLemmas.{same_node-refl}
 use Rattle.aeth_router.proofs.LinkLemmas.{is_among-from_passes, passes-from_is_among}
 use Rattle.aeth_router.proofs.WireLemmas.{AreLinks-entering_wires}
 use Rattle.aeth_router.specs.{Router.is_among, Router.last_wire, declared.part.Part.Part}
-use Rattle.aeth_components.proofs.FrameLemmas.{from-map}
+use Rattle.aeth_components.proofs.WiringLemmas.{from-map}
 use Rattle.aeth_components.proofs.MadeParts.{StageAt, among-first, among-only, at-append}
 use Rattle.aeth_components.proofs.MadeParts.{length-made_stages, part_number-below, same_node-place}
 use Rattle.aeth_components.proofs.MadeParts.{stage-at}
-use Rattle.aeth_components.specs.{Ends.part_number, Components.part_count, Frames.Frame}
-use Rattle.aeth_components.specs.{Frames.IsWired, Frames.frame_of, Frames.receives_by}
-use Rattle.aeth_components.specs.{Frames.sends_by, Making.made_interface, Making.made_router}
+use Rattle.aeth_components.specs.{Ends.part_number, Components.part_count, Wirings.Wiring}
+use Rattle.aeth_components.specs.{Wirings.IsWired, Wirings.wiring_of, Wirings.receives_by}
+use Rattle.aeth_components.specs.{Wirings.sends_by, Making.made_interface, Making.made_router}
 use Rattle.aeth_components.specs.{Making.made_stage, Making.made_stages, Making.new_parts}
 use Rattle.aeth_components.specs.{declared.making.RouterKind.TheVariants.ByHeader}
 
@@ -99,28 +99,28 @@ module _ (chip : ChipData) (rooms : List ℕ) where
 
 -- The wires of a stage.
 module _ (links : List Link) (number : ℕ) (part : Part) (stage : StageAt links number part) where
-  stage-own : sends_by (frame_of part) (length links + number) ≡ true
+  stage-own : sends_by (wiring_of part) (length links + number) ≡ true
   stage-own =
       let behind = wire_at-behind links stage.link (stage.place + 1) (λ none. omega arith) in
       let place = stage.number_is in
-      ap (λ (part : Part). sends_by (frame_of part) (length links + number)) stage.is
+      ap (λ (part : Part). sends_by (wiring_of part) (length links + number)) stage.is
       ∙ eq-eqb (wire_at links stage.link (stage.place + 1)) (length links + number) (omega arith)
 
-  stage-sends : (wire : ℕ) → sends_by (frame_of part) wire ≡ true
+  stage-sends : (wire : ℕ) → sends_by (wiring_of part) wire ≡ true
       → wire ≡ length links + number
   stage-sends wire is =
-      let sends : sends_by (frame_of (made_stage links stage.link stage.place)) wire ≡ true =
-      ap (λ (part : Part). sends_by (frame_of part) wire) (sym stage.is) ∙ is in
+      let sends : sends_by (wiring_of (made_stage links stage.link stage.place)) wire ≡ true =
+      ap (λ (part : Part). sends_by (wiring_of part) wire) (sym stage.is) ∙ is in
       let same = eqb-true (wire_at links stage.link (stage.place + 1)) wire sends in
       let behind = wire_at-behind links stage.link (stage.place + 1) (λ none. omega arith) in
       let place = stage.number_is in
       omega arith
 
-  stage-receives : (wire : ℕ) → HaveDelays links → receives_by (frame_of part) wire ≡ true
+  stage-receives : (wire : ℕ) → HaveDelays links → receives_by (wiring_of part) wire ≡ true
       → wire < wires_of links
   stage-receives wire delays is =
-      let receives : receives_by (frame_of (made_stage links stage.link stage.place)) wire ≡ true =
-      ap (λ (part : Part). receives_by (frame_of part) wire) (sym stage.is) ∙ is in
+      let receives : receives_by (wiring_of (made_stage links stage.link stage.place)) wire ≡ true =
+      ap (λ (part : Part). receives_by (wiring_of part) wire) (sym stage.is) ∙ is in
       let same = eqb-true (wire_at links stage.link stage.place) wire receives in
       let short = stage.short in
       let below = wire_at-below links delays stage.link stage.place stage.found stage.at
@@ -136,7 +136,7 @@ SendsAt chip i wire =
 
 module _ (chip : ChipData) (is_chip : IsChip chip) (rooms : List ℕ) where
   interface-sends : (n wire : ℕ) → n < length chip.nis
-      → sends_by (frame_of (made_interface chip rooms n)) wire ≡ true → SendsAt chip n wire
+      → sends_by (wiring_of (made_interface chip rooms n)) wire ≡ true → SendsAt chip n wire
   interface-sends n wire within is =
       let node : Node = Ni (record { 0 = n }) in
       let single = is_chip.single (record { 0 = n }) within in
@@ -144,7 +144,7 @@ module _ (chip : ChipData) (is_chip : IsChip chip) (rooms : List ℕ) where
       let passes = passes-from_is_among (begins_at node) chip.links wire among in
       inl (passes.0, passes.1, same_node-place (length chip.nis) passes.0.from node passes.2)
 
-  router-sends : (r wire : ℕ) → sends_by (frame_of (made_router chip ByHeader r)) wire ≡ true
+  router-sends : (r wire : ℕ) → sends_by (wiring_of (made_router chip ByHeader r)) wire ≡ true
       → SendsAt chip (length chip.nis + r) wire
   router-sends r wire is =
       let node : Node = Router (record { 0 = r }) in
@@ -152,18 +152,18 @@ module _ (chip : ChipData) (is_chip : IsChip chip) (rooms : List ℕ) where
       inl (passes.0, passes.1, same_node-place (length chip.nis) passes.0.from node passes.2)
 
   sends-at : (i wire : ℕ) (part : Part) → Made chip rooms i part
-      → sends_by (frame_of part) wire ≡ true → SendsAt chip i wire
+      → sends_by (wiring_of part) wire ≡ true → SendsAt chip i wire
   sends-at i wire part (IsInterface within is) sends =
       interface-sends i wire within
-      (ap (λ (part : Part). sends_by (frame_of part) wire) (sym is) ∙ sends)
+      (ap (λ (part : Part). sends_by (wiring_of part) wire) (sym is) ∙ sends)
   sends-at i wire part (IsRouter r within place is) sends =
       rw place (router-sends r wire
-      (ap (λ (part : Part). sends_by (frame_of part) wire) (sym is) ∙ sends))
+      (ap (λ (part : Part). sends_by (wiring_of part) wire) (sym is) ∙ sends))
   sends-at i wire part (IsStage k few place stage) sends =
       inr (k, few, stage-sends chip.links k part stage wire sends, place)
 
   interface-receives : (n wire : ℕ) → n < length chip.nis
-      → receives_by (frame_of (made_interface chip rooms n)) wire ≡ true
+      → receives_by (wiring_of (made_interface chip rooms n)) wire ≡ true
       → wire < wires_of chip.links
   interface-receives n wire within is =
       let links = chip.links in
@@ -183,13 +183,13 @@ module _ (chip : ChipData) (is_chip : IsChip chip) (rooms : List ℕ) where
       omega arith
 
   receives-below : (i wire : ℕ) (part : Part) → Made chip rooms i part
-      → receives_by (frame_of part) wire ≡ true → wire < wires_of chip.links
+      → receives_by (wiring_of part) wire ≡ true → wire < wires_of chip.links
   receives-below i wire part (IsInterface within is) receives =
       interface-receives i wire within
-      (ap (λ (part : Part). receives_by (frame_of part) wire) (sym is) ∙ receives)
+      (ap (λ (part : Part). receives_by (wiring_of part) wire) (sym is) ∙ receives)
   receives-below i wire part (IsRouter r within place is) receives =
       AreLinks-entering_wires chip.links (have_delays chip is_chip) (record { 0 = r }) wire
-      (ap (λ (part : Part). receives_by (frame_of part) wire) (sym is) ∙ receives)
+      (ap (λ (part : Part). receives_by (wiring_of part) wire) (sym is) ∙ receives)
   receives-below i wire part (IsStage k few place stage) receives =
       stage-receives chip.links k part stage wire (have_delays chip is_chip) receives
 
@@ -229,7 +229,7 @@ module _ (chip : ChipData) (is_chip : IsChip chip) (rooms : List ℕ) where
   node-sends : (wire : ℕ) (link : Link) → slice_get chip.links wire ≡ Some link
       → (node : Node) → IsNode chip.routers chip.nis node → same_node link.from node ≡ true
       → (part : Part) → Made chip rooms (part_number (length chip.nis) node) part
-      → sends_by (frame_of part) wire ≡ true
+      → sends_by (wiring_of part) wire ≡ true
   node-sends wire link at (Ni n) known same part (IsInterface within is) =
       let node : Node = Ni n in
       let single = is_chip.single n within in
@@ -255,7 +255,7 @@ module _ (chip : ChipData) (is_chip : IsChip chip) (rooms : List ℕ) where
   -- The stage of a further wire sends on it.
   further-sends : (k : ℕ) → k < further_wires chip.links → (part : Part)
       → Made chip rooms (length chip.nis + length chip.routers + k) part
-      → sends_by (frame_of part) (length chip.links + k) ≡ true
+      → sends_by (wiring_of part) (length chip.links + k) ≡ true
   further-sends k few part (IsInterface within is) = absurd (omega arith)
   further-sends k few part (IsRouter r within place is) = absurd (omega arith)
   further-sends k few part (IsStage n within place stage) =
@@ -265,7 +265,7 @@ module _ (chip : ChipData) (is_chip : IsChip chip) (rooms : List ℕ) where
   -- So on each wire a component sends.
   owner : (wire : ℕ) → wire < wires_of chip.links
       → (i : ℕ) × (part : Part) × (slice_get (new_parts chip ByHeader rooms) i ≡ Some part)
-      × (sends_by (frame_of part) wire ≡ true)
+      × (sends_by (wiring_of part) wire ≡ true)
   owner wire within =
       let size = length-new_parts chip rooms in
       elim (cases_lt wire (length chip.links)) [
@@ -288,46 +288,46 @@ module _ (chip : ChipData) (is_chip : IsChip chip) (rooms : List ℕ) where
             let part = item-at (new_parts chip ByHeader rooms) i (omega arith) in
             let same : length chip.links + k ≡ wire = omega arith in
             let sends = further-sends k (omega arith) part.0 (part-at chip rooms i part.0 part.1) in
-            (i, part.0, part.1, ap (sends_by (frame_of part.0)) (sym same) ∙ sends)
+            (i, part.0, part.1, ap (sends_by (wiring_of part.0)) (sym same) ∙ sends)
       ]
 
-  pub made-at : (i : ℕ) (frame : Frame)
-      → slice_get (map frame_of (new_parts chip ByHeader rooms)) i ≡ Some frame
-      → (part : Part) × (Made chip rooms i part) × (frame ≡ frame_of part)
-  made-at i frame at =
-      let made = from-map frame_of (new_parts chip ByHeader rooms) i frame at in
+  pub made-at : (i : ℕ) (wiring : Wiring)
+      → slice_get (map wiring_of (new_parts chip ByHeader rooms)) i ≡ Some wiring
+      → (part : Part) × (Made chip rooms i part) × (wiring ≡ wiring_of part)
+  made-at i wiring at =
+      let made = from-map wiring_of (new_parts chip ByHeader rooms) i wiring at in
       (made.0, part-at chip rooms i made.0 made.1, made.2)
 
-  pub frame-sends : (i wire : ℕ) (frame : Frame)
-      → slice_get (map frame_of (new_parts chip ByHeader rooms)) i ≡ Some frame
-      → sends_by frame wire ≡ true → SendsAt chip i wire
-  frame-sends i wire frame at sends =
-      let made = made-at i frame at in
+  pub wiring-sends : (i wire : ℕ) (wiring : Wiring)
+      → slice_get (map wiring_of (new_parts chip ByHeader rooms)) i ≡ Some wiring
+      → sends_by wiring wire ≡ true → SendsAt chip i wire
+  wiring-sends i wire wiring at sends =
+      let made = made-at i wiring at in
       sends-at i wire made.0 made.1
-      (ap (λ (frame : Frame). sends_by frame wire) (sym made.2) ∙ sends)
+      (ap (λ (wiring : Wiring). sends_by wiring wire) (sym made.2) ∙ sends)
 
   -- A chip's components are wired by its wires.
-  pub IsWired-new : IsWired (map frame_of (new_parts chip ByHeader rooms)) (wires_of chip.links)
+  pub IsWired-new : IsWired (map wiring_of (new_parts chip ByHeader rooms)) (wires_of chip.links)
   IsWired-new =
-      let frames = map frame_of (new_parts chip ByHeader rooms) in
+      let wirings = map wiring_of (new_parts chip ByHeader rooms) in
       record {
         outputs = λ i default within wire sends.
-            sends-below i wire (frame-sends i wire (get_or frames i default)
-            (slice_get-get_or frames i default within) sends);
+            sends-below i wire (wiring-sends i wire (get_or wirings i default)
+            (slice_get-get_or wirings i default within) sends);
         inputs = λ i default within wire receives.
-            let made = made-at i (get_or frames i default)
-            (slice_get-get_or frames i default within) in
+            let made = made-at i (get_or wirings i default)
+            (slice_get-get_or wirings i default within) in
             receives-below i wire made.0 made.1
-            (ap (λ (frame : Frame). receives_by frame wire) (sym made.2) ∙ receives);
-        disjoint = λ i j wire frame other at there sends sends_too.
-            sends-once i j wire (frame-sends i wire frame at sends)
-            (frame-sends j wire other there sends_too);
+            (ap (λ (wiring : Wiring). receives_by wiring wire) (sym made.2) ∙ receives);
+        disjoint = λ i j wire wiring other at there sends sends_too.
+            sends-once i j wire (wiring-sends i wire wiring at sends)
+            (wiring-sends j wire other there sends_too);
         owned = λ wire within.
             let part = owner wire within in (
               part.0,
-              frame_of part.1,
-              slice_get-map frame_of (new_parts chip ByHeader rooms) part.0
-                  ∙ ap (option_map frame_of) part.2,
+              wiring_of part.1,
+              slice_get-map wiring_of (new_parts chip ByHeader rooms) part.0
+                  ∙ ap (option_map wiring_of) part.2,
               part.3,
             );
       }

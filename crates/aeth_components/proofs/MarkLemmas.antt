@@ -10,89 +10,101 @@ use Rattle.aeth_base.proofs.Lists.{slice_get-slice_set_other, slice_get-slice_se
 use Rattle.aeth_base.proofs.MarkedLemmas.{is_marked-one, is_marked-zero, next-passing, none-passing}
 use Rattle.aeth_base.specs.Marks.{bit_of, is_marked, marked_from, numbers_of_mask, room_of}
 use Rattle.aeth_router.specs.declared.part.Part.{Part}
-use Rattle.aeth_components.specs.{declared.lane.Lane.Lane, Busy.AreMarked, Phases.Moment}
-use Rattle.aeth_components.specs.{Phases.turned_by}
+use Rattle.aeth_components.specs.{declared.channel_state.ChannelState.ChannelState, Busy.AreMarked}
+use Rattle.aeth_components.specs.{Phases.Moment, Phases.turned_by}
 
 -- A channel has changed: the masks mark as before, where it is idle if it was.
-pub AreMarked-set : {IsStill : Lane → Type 0} (masks : List ℕ) (lanes : List Lane) (number : ℕ)
-    (lane new : Lane)
-    → slice_get lanes number ≡ Some lane → (IsStill lane → IsStill new) → AreMarked IsStill masks lanes
-    → AreMarked IsStill masks (set lanes number new)
-AreMarked-set {IsStill = IsStill} masks lanes number lane new at still marked =
-    let within = slice_get_within lanes number lane at in
-    let same = length-set lanes number new in
+pub AreMarked-set : {IsStill : ChannelState → Type 0} (masks : List ℕ)
+    (channel_states : List ChannelState) (number : ℕ)
+    (channel_state new : ChannelState)
+    → slice_get channel_states number ≡ Some channel_state → (IsStill channel_state → IsStill new)
+    → AreMarked IsStill masks channel_states
+    → AreMarked IsStill masks (set channel_states number new)
+AreMarked-set {IsStill = IsStill} masks channel_states number channel_state new at still marked =
+    let within = slice_get_within channel_states number channel_state at in
+    let same = length-set channel_states number new in
     record {
       size = (let size = marked.size in omega arith);
       idle = λ other found there bit. elim (cases_eq other number) [
         | inl here ↦
             let is : new ≡ found =
             same_Some new found
-            (sym (slice_get-slice_set_same lanes number new within)
-            ∙ ap (slice_get (set lanes number new)) (sym here) ∙ there) in
+            (sym (slice_get-slice_set_same channel_states number new within)
+            ∙ ap (slice_get (set channel_states number new)) (sym here) ∙ there) in
             subst IsStill is
-            (still (marked.idle number lane at (ap (bit_of masks) (sym here) ∙ bit)))
+            (still (marked.idle number channel_state at (ap (bit_of masks) (sym here) ∙ bit)))
         | inr apart ↦
             marked.idle other found
-            (sym (slice_get-slice_set_other lanes number other new apart) ∙ there) bit
+            (sym (slice_get-slice_set_other channel_states number other new apart) ∙ there) bit
       ];
     }
 
 -- A channel is marked no more, which is idle.
-pub AreMarked-unmarked : {IsStill : Lane → Type 0} (old new : List ℕ) (lanes : List Lane)
-    (number : ℕ) (lane : Lane)
-    → slice_get lanes number ≡ Some lane → IsStill lane → room_of new ≡ room_of old
+pub AreMarked-unmarked : {IsStill : ChannelState → Type 0} (old new : List ℕ)
+    (channel_states : List ChannelState)
+    (number : ℕ) (channel_state : ChannelState)
+    → slice_get channel_states number ≡ Some channel_state → IsStill channel_state
+    → room_of new ≡ room_of old
     → ((other : ℕ) → other ≢ number → bit_of new other ≡ bit_of old other)
-    → AreMarked IsStill old lanes → AreMarked IsStill new lanes
-AreMarked-unmarked {IsStill = IsStill} old new lanes number lane at idle same away marked =
+    → AreMarked IsStill old channel_states → AreMarked IsStill new channel_states
+AreMarked-unmarked {IsStill = IsStill} old new channel_states number channel_state at idle same away
+    marked =
     record {
       size = (let size = marked.size in omega arith);
       idle = λ other found there bit. elim (cases_eq other number) [
         | inl here ↦
             subst IsStill
-            (same_Some lane found (sym at ∙ ap (slice_get lanes) (sym here) ∙ there)) idle
+            (same_Some channel_state found
+            (sym at ∙ ap (slice_get channel_states) (sym here) ∙ there)) idle
         | inr apart ↦ marked.idle other found there (sym (away other apart) ∙ bit)
       ];
     }
 
 -- So where it is as it is read.
-pub AreMarked-read : (IsStill : Lane → Type 0) (old new : List ℕ) (lanes : List Lane) (number : ℕ)
-    (default : Lane) → number < length lanes → IsStill (get_or lanes number default)
+pub AreMarked-read : (IsStill : ChannelState → Type 0) (old new : List ℕ)
+    (channel_states : List ChannelState) (number : ℕ)
+    (default : ChannelState) → number < length channel_states
+    → IsStill (get_or channel_states number default)
     → room_of new ≡ room_of old
     → ((other : ℕ) → other ≢ number → bit_of new other ≡ bit_of old other)
-    → AreMarked IsStill old lanes → AreMarked IsStill new lanes
-AreMarked-read IsStill old new lanes number default within still =
-    AreMarked-unmarked old new lanes number (get_or lanes number default)
-    (slice_get-get_or lanes number default within) still
+    → AreMarked IsStill old channel_states → AreMarked IsStill new channel_states
+AreMarked-read IsStill old new channel_states number default within still =
+    AreMarked-unmarked old new channel_states number (get_or channel_states number default)
+    (slice_get-get_or channel_states number default within) still
 
 -- A channel is marked, and may be another.
-pub AreMarked-marked : {IsStill : Lane → Type 0} (old new : List ℕ) (lanes : List Lane) (number : ℕ)
-    (lane : Lane)
+pub AreMarked-marked : {IsStill : ChannelState → Type 0} (old new : List ℕ)
+    (channel_states : List ChannelState) (number : ℕ)
+    (channel_state : ChannelState)
     → room_of new ≡ room_of old → bit_of new number ≡ 1
     → ((other : ℕ) → other ≢ number → bit_of new other ≡ bit_of old other)
-    → AreMarked IsStill old lanes → AreMarked IsStill new (set lanes number lane)
-AreMarked-marked old new lanes number lane same here away marked =
-    let sized = length-set lanes number lane in
+    → AreMarked IsStill old channel_states
+    → AreMarked IsStill new (set channel_states number channel_state)
+AreMarked-marked old new channel_states number channel_state same here away marked =
+    let sized = length-set channel_states number channel_state in
     record {
       size = (let size = marked.size in omega arith);
       idle = λ other found there bit. elim (cases_eq other number) [
         | inl is ↦ absurd (omega (arith, here, sym (ap (bit_of new) is) ∙ bit))
         | inr apart ↦
             marked.idle other found
-            (sym (slice_get-slice_set_other lanes number other lane apart) ∙ there)
+            (sym (slice_get-slice_set_other channel_states number other channel_state apart)
+            ∙ there)
             (sym (away other apart) ∙ bit)
       ];
     }
 
 -- Where each is marked, none need be idle.
-pub AreMarked-all : {IsStill : Lane → Type 0} (masks : List ℕ) (lanes : List Lane)
-    → length lanes < room_of masks
+pub AreMarked-all : {IsStill : ChannelState → Type 0} (masks : List ℕ)
+    (channel_states : List ChannelState)
+    → length channel_states < room_of masks
     → ((number : ℕ) → number < room_of masks → bit_of masks number ≡ 1)
-    → AreMarked IsStill masks lanes
-AreMarked-all masks lanes size all =
+    → AreMarked IsStill masks channel_states
+AreMarked-all masks channel_states size all =
     record {
       size = size;
-      idle = λ number lane at bit.
-          let within = slice_get_within lanes number lane at in
+      idle = λ number channel_state at bit.
+          let within = slice_get_within channel_states number channel_state at in
           absurd (omega (arith, bit, all number (omega arith)));
     }
 
@@ -119,23 +131,30 @@ unmarked-behind masks from none number over = elim (cases_Bool (is_marked masks 
 ]
 
 -- A turn keeps what it leaves alone.
-pub kept-alone : (IsStill : Lane → Type 0) (turn : List Part → Lane → List Part × Lane)
-    → ((parts : List Part) (lane : Lane) → IsStill lane → turn parts lane ≡ (parts, lane))
-    → (parts : List Part) (lane : Lane) → IsStill lane → IsStill (turn parts lane).1
-kept-alone IsStill turn still parts lane is =
-    subst IsStill (sym (ap (λ (pair : List Part × Lane). pair.1) (still parts lane is))) is
+pub kept-alone : (IsStill : ChannelState → Type 0)
+    (turn : List Part → ChannelState → List Part × ChannelState)
+    → ((parts : List Part) (channel_state : ChannelState) → IsStill channel_state
+    → turn parts channel_state ≡ (parts, channel_state))
+    → (parts : List Part) (channel_state : ChannelState) → IsStill channel_state
+    → IsStill (turn parts channel_state).1
+kept-alone IsStill turn still parts channel_state is =
+    subst IsStill
+    (sym (ap (λ (pair : List Part × ChannelState). pair.1) (still parts channel_state is))) is
 
 -- The masks mark as before once a channel had its turn, where a turn keeps it so.
-pub AreMarked-turned : {IsStill : Lane → Type 0} (turn : List Part → Lane → List Part × Lane)
-    → ((parts : List Part) (lane : Lane) → IsStill lane → IsStill (turn parts lane).1)
-    → (masks : List ℕ) (now : Moment) (number : ℕ) (lane : Lane) (done : List Part × Lane)
-    → slice_get now.lanes number ≡ Some lane
-    → done ≡ turn now.parts lane → AreMarked IsStill masks now.lanes
-    → AreMarked IsStill masks (turned_by now number done).lanes
-AreMarked-turned {IsStill = IsStill} turn kept masks now number lane done at did marked =
-    AreMarked-set masks now.lanes number lane done.1 at
-    (λ still. subst IsStill (sym (ap (λ (pair : List Part × Lane). pair.1) did))
-    (kept now.parts lane still))
+pub AreMarked-turned : {IsStill : ChannelState → Type 0}
+    (turn : List Part → ChannelState → List Part × ChannelState)
+    → ((parts : List Part) (channel_state : ChannelState) → IsStill channel_state
+    → IsStill (turn parts channel_state).1)
+    → (masks : List ℕ) (now : Moment) (number : ℕ) (channel_state : ChannelState)
+    (done : List Part × ChannelState)
+    → slice_get now.channel_states number ≡ Some channel_state
+    → done ≡ turn now.parts channel_state → AreMarked IsStill masks now.channel_states
+    → AreMarked IsStill masks (turned_by now number done).channel_states
+AreMarked-turned {IsStill = IsStill} turn kept masks now number channel_state done at did marked =
+    AreMarked-set masks now.channel_states number channel_state done.1 at
+    (λ still. subst IsStill (sym (ap (λ (pair : List Part × ChannelState). pair.1) did))
+    (kept now.parts channel_state still))
     marked
 
 -- The next marked number, of those from one on, and the ones behind it.

@@ -7,7 +7,7 @@ use Rattle.aeth_ni.{specs.Component.emitted_by, proofs.RestingLemmas.queue_at_cy
 use Rattle.aeth_router.specs.declared.part.Part.{Part}
 use Rattle.aeth_router.specs.declared.part.Part.TheVariants.{Interface, Router, Stage, TableRouter}
 use Rattle.aeth_components.specs.{First.HasSender, Injecting.AreInjecting, Injecting.entries_of}
-use Rattle.aeth_components.specs.{declared.injecting.Injecting.Injecting, Turns.sends_own}
+use Rattle.aeth_components.specs.{declared.injecting.Injecting.Injecting, FlitsOnWires.sends_own}
 use Rattle.aeth_components.specs.{SlotMarks.marks_at}
 use Rattle.aeth_components.proofs.InjectingLemmas.{AreInjecting-sends, length-sends}
 use Rattle.aeth_base.specs.Marks.{bit_of}

@@ -6,9 +6,10 @@ use Rattle.std.proofs.lemmas.Option.{same_Some, slice_get_within}
 use Rattle.aeth_base.proofs.Lists.{slice_get-slice_set_same, slice_get-slice_set_other}
 use Rattle.aeth_clocked.specs.declared.flit.Flit.{Flit}
 use Rattle.aeth_router.specs.declared.part.Part.{Part}
-use Rattle.aeth_components.specs.{declared.lane.Lane.Lane, Counting.brings, Counting.flits_counted}
-use Rattle.aeth_components.specs.{Counting.noted, Counting.with_flit, Counting.written_over}
-use Rattle.aeth_components.specs.{Lanes.is_open, Laws.LandsAt, Laws.NotesAlone}
+use Rattle.aeth_components.specs.declared.channel_state.ChannelState.{ChannelState}
+use Rattle.aeth_components.specs.Counting.{brings, flits_counted, noted, with_flit, written_over}
+use Rattle.aeth_components.specs.ChannelStates.{is_open}
+use Rattle.aeth_components.specs.Laws.{LandsAt, NotesAlone}
 use Rattle.aeth_components.proofs.CountingLemmas.{length-noted, length-written_over, noted-closed}
 use Rattle.aeth_components.proofs.CountingLemmas.{noted-open}
 
@@ -42,86 +43,98 @@ written_over-outside (suc count) from value list place outside =
 
 module _ (cycle : ℕ) (parts : List Part) where
   -- What one channel notes.
-  noted-own : (landings : List ℕ) (lane : Lane) (place : ℕ) → LandsAt cycle parts lane place
+  noted-own : (landings : List ℕ) (channel_state : ChannelState) (place : ℕ)
+      → LandsAt cycle parts channel_state place
       → place < length landings
-      → slice_get (noted cycle parts landings lane) place ≡ Some (cycle + 1)
-  noted-own landings lane place lands within =
-      rw (noted-open cycle parts landings lane lands.0)
-      (written_over-within (brings parts lane) (lane.first + lane.landed) (cycle + 1) landings place
+      → slice_get (noted cycle parts landings channel_state) place ≡ Some (cycle + 1)
+  noted-own landings channel_state place lands within =
+      rw (noted-open cycle parts landings channel_state lands.0)
+      (written_over-within (brings parts channel_state) (channel_state.first + channel_state.landed)
+      (cycle + 1) landings place
       lands.1 lands.2 within)
 
-  noted-other : (landings : List ℕ) (lane : Lane) (place : ℕ)
-      → (LandsAt cycle parts lane place → ⊥)
-      → slice_get (noted cycle parts landings lane) place ≡ slice_get landings place
-  noted-other landings lane place none =
-      elim (cases_Bool (is_open lane cycle)) [
+  noted-other : (landings : List ℕ) (channel_state : ChannelState) (place : ℕ)
+      → (LandsAt cycle parts channel_state place → ⊥)
+      → slice_get (noted cycle parts landings channel_state) place ≡ slice_get landings place
+  noted-other landings channel_state place none =
+      elim (cases_Bool (is_open channel_state cycle)) [
         | inl opened ↦
-            rw (noted-open cycle parts landings lane opened)
-            (written_over-outside (brings parts lane) (lane.first + lane.landed) (cycle + 1)
+            rw (noted-open cycle parts landings channel_state opened)
+            (written_over-outside (brings parts channel_state)
+            (channel_state.first + channel_state.landed) (cycle + 1)
             landings place (λ after before. none (opened, after, before)))
-        | inr closed ↦ rw (noted-closed cycle parts landings lane closed) refl
+        | inr closed ↦ rw (noted-closed cycle parts landings channel_state closed) refl
       ]
 
   -- Each notes the same cycle, so what is noted stays.
-  noted-keeps : (landings : List ℕ) (lane : Lane) (place : ℕ)
+  noted-keeps : (landings : List ℕ) (channel_state : ChannelState) (place : ℕ)
       → slice_get landings place ≡ Some (cycle + 1)
-      → slice_get (noted cycle parts landings lane) place ≡ Some (cycle + 1)
-  noted-keeps landings lane place at =
+      → slice_get (noted cycle parts landings channel_state) place ≡ Some (cycle + 1)
+  noted-keeps landings channel_state place at =
       let within = slice_get_within landings place (cycle + 1) at in
-      let from = lane.first + lane.landed in
-      elim (cases_Bool (is_open lane cycle)) [
+      let from = channel_state.first + channel_state.landed in
+      elim (cases_Bool (is_open channel_state cycle)) [
         | inl opened ↦ elim (cases_lt place from) [
           | inl before ↦
-              noted-other landings lane place
+              noted-other landings channel_state place
               (λ lands. let after = lands.1 in omega arith) ∙ at
-          | inr after ↦ elim (cases_lt place (from + brings parts lane)) [
+          | inr after ↦ elim (cases_lt place (from + brings parts channel_state)) [
             | inl inside ↦
-                noted-own landings lane place (opened, omega arith, inside) within
+                noted-own landings channel_state place (opened, omega arith, inside) within
             | inr behind ↦
-                noted-other landings lane place
+                noted-other landings channel_state place
                 (λ lands. let before = lands.2 in omega arith) ∙ at
           ]
         ]
         | inr closed ↦
-            noted-other landings lane place
+            noted-other landings channel_state place
             (λ lands. absurd (let no : true ≡ false = sym lands.0 ∙ closed in cc)) ∙ at
       ]
 
-  notes-keep : (lanes : List Lane) (landings : List ℕ) (place : ℕ)
+  notes-keep : (channel_states : List ChannelState) (landings : List ℕ) (place : ℕ)
       → slice_get landings place ≡ Some (cycle + 1)
-      → slice_get (fold (noted cycle parts) landings lanes) place ≡ Some (cycle + 1)
+      → slice_get (fold (noted cycle parts) landings channel_states) place ≡ Some (cycle + 1)
   notes-keep [] landings place at = at
-  notes-keep (lane ∷ lanes) landings place at =
-      notes-keep lanes (noted cycle parts landings lane) place
-      (noted-keeps landings lane place at)
+  notes-keep (channel_state ∷ channel_states) landings place at =
+      notes-keep channel_states (noted cycle parts landings channel_state) place
+      (noted-keeps landings channel_state place at)
 
-  notes-own : (lanes : List Lane) (landings : List ℕ) (number : ℕ) (lane : Lane) (place : ℕ)
-      → slice_get lanes number ≡ Some lane → LandsAt cycle parts lane place
+  notes-own : (channel_states : List ChannelState) (landings : List ℕ) (number : ℕ)
+      (channel_state : ChannelState) (place : ℕ)
+      → slice_get channel_states number ≡ Some channel_state
+      → LandsAt cycle parts channel_state place
       → place < length landings
-      → slice_get (fold (noted cycle parts) landings lanes) place ≡ Some (cycle + 1)
-  notes-own [] landings number lane place at lands within = absurd cc
-  notes-own (first ∷ lanes) landings zero lane place at lands within =
-      let same : first ≡ lane = same_Some first lane at in
-      notes-keep lanes (noted cycle parts landings first) place
-      (rw same (noted-own landings lane place lands within))
-  notes-own (first ∷ lanes) landings (suc number) lane place at lands within =
+      → slice_get (fold (noted cycle parts) landings channel_states) place ≡ Some (cycle + 1)
+  notes-own [] landings number channel_state place at lands within = absurd cc
+  notes-own (first ∷ channel_states) landings zero channel_state place at lands within =
+      let same : first ≡ channel_state = same_Some first channel_state at in
+      notes-keep channel_states (noted cycle parts landings first) place
+      (rw same (noted-own landings channel_state place lands within))
+  notes-own (first ∷ channel_states) landings (suc number) channel_state place at lands within =
       let size = length-noted cycle parts landings first in
-      notes-own lanes (noted cycle parts landings first) number lane place at lands (omega arith)
+      notes-own channel_states (noted cycle parts landings first) number channel_state place at
+      lands (omega arith)
 
-  notes-other : (lanes : List Lane) (landings : List ℕ) (place : ℕ)
-      → ((number : ℕ) (lane : Lane) → slice_get lanes number ≡ Some lane
-      → LandsAt cycle parts lane place → ⊥)
-      → slice_get (fold (noted cycle parts) landings lanes) place ≡ slice_get landings place
+  notes-other : (channel_states : List ChannelState) (landings : List ℕ) (place : ℕ)
+      → ((number : ℕ) (channel_state : ChannelState)
+      → slice_get channel_states number ≡ Some channel_state
+      → LandsAt cycle parts channel_state place → ⊥)
+      → slice_get (fold (noted cycle parts) landings channel_states) place
+      ≡ slice_get landings place
   notes-other [] landings place none = refl
-  notes-other (lane ∷ lanes) landings place none =
-      notes-other lanes (noted cycle parts landings lane) place
+  notes-other (channel_state ∷ channel_states) landings place none =
+      notes-other channel_states (noted cycle parts landings channel_state) place
       (λ number other at. none (suc number) other at)
-      ∙ noted-other landings lane place (none 0 lane refl)
+      ∙ noted-other landings channel_state place (none 0 channel_state refl)
 
-  pub NotesAlone-holds : (lanes : List Lane) (landings : List ℕ)
-      → NotesAlone cycle parts lanes landings
-  NotesAlone-holds lanes landings =
-      record { own = notes-own lanes landings; other = notes-other lanes landings }
+  pub NotesAlone-holds : (channel_states : List ChannelState) (landings : List ℕ)
+      → NotesAlone cycle parts channel_states landings
+  NotesAlone-holds channel_states landings =
+      record {
+        own = notes-own channel_states landings;
+        other =
+            notes-other channel_states landings;
+      }
 
 -- The flits of one link.
 pub flits_counted-at : (wires : List (Option Flit)) (counts : List ℕ) (link count : ℕ)

@@ -16,8 +16,8 @@ use Rattle.aeth_components.specs.declared.event.Event.{Event}
 use Rattle.aeth_components.specs.declared.event.Event.TheVariants.{Halt, Finish, Change}
 use Rattle.aeth_components.specs.Changes.{event_done, happened, on_interface, switched, with_part}
 use Rattle.aeth_components.specs.Events.{IsDoable, Suits, event_part}
-use Rattle.aeth_components.specs.Frames.{Frame, frame_of}
-use Rattle.aeth_components.proofs.FrameLemmas.{frame_of-changed}
+use Rattle.aeth_components.specs.Wirings.{Wiring, wiring_of}
+use Rattle.aeth_components.proofs.WiringLemmas.{wiring_of-changed}
 
 -- A component that is changed at its place has changed.
 pub set-with_part : (parts : List Part) (number : ℕ) (change : Part → Part) (default : Part)
@@ -76,51 +76,51 @@ module _ {X : Type 0} (view : Part → X) where
       views-switched kept events (happened parts event)
       ∙ views-with_part (event_part event) (on_interface (event_done event)) (kept event) parts
 
--- So it is with frames.
-pub frames-with_part : (number : ℕ) (change : Part → Part)
-    → ((part : Part) → frame_of (change part) ≡ frame_of part) → (parts : List Part)
-    → map frame_of (with_part number change parts) ≡ map frame_of parts
-frames-with_part = views-with_part frame_of
+-- So it is with wirings.
+pub wirings-with_part : (number : ℕ) (change : Part → Part)
+    → ((part : Part) → wiring_of (change part) ≡ wiring_of part) → (parts : List Part)
+    → map wiring_of (with_part number change parts) ≡ map wiring_of parts
+wirings-with_part = views-with_part wiring_of
 
--- No event changes a frame.
-frame_of-written : (write : Write) (ni : InterfaceState)
-    → frame_of (Interface (written write ni)) ≡ frame_of (Interface ni)
-frame_of-written (ClearSlot to slot) ni = rw (length-set ni.entries slot) refl
-frame_of-written (ClearRoute to queue) ni = frame_of-changed queue without_route ni
-frame_of-written (SetRoute to queue route remote credits) ni =
-    frame_of-changed queue (with_route (record { ports = route; remote = remote }) credits) ni
-frame_of-written (SetSlot to slot queue) ni = rw (length-set ni.entries slot) refl
+-- No event changes a wiring.
+wiring_of-written : (write : Write) (ni : InterfaceState)
+    → wiring_of (Interface (written write ni)) ≡ wiring_of (Interface ni)
+wiring_of-written (ClearSlot to slot) ni = rw (length-set ni.entries slot) refl
+wiring_of-written (ClearRoute to queue) ni = wiring_of-changed queue without_route ni
+wiring_of-written (SetRoute to queue route remote credits) ni =
+    wiring_of-changed queue (with_route (record { ports = route; remote = remote }) credits) ni
+wiring_of-written (SetSlot to slot queue) ni = rw (length-set ni.entries slot) refl
 
-frame_of-event : (event : Event) (part : Part)
-    → frame_of (on_interface (event_done event) part) ≡ frame_of part
-frame_of-event event (Router router) = refl
-frame_of-event event (TableRouter router) = refl
-frame_of-event event (Stage stage) = refl
-frame_of-event (Halt end) (Interface ni) = frame_of-changed end.queue stopped ni
-frame_of-event (Finish end) (Interface ni) = frame_of-changed end.queue finished ni
-frame_of-event (Change write) (Interface ni) = frame_of-written write ni
+wiring_of-event : (event : Event) (part : Part)
+    → wiring_of (on_interface (event_done event) part) ≡ wiring_of part
+wiring_of-event event (Router router) = refl
+wiring_of-event event (TableRouter router) = refl
+wiring_of-event event (Stage stage) = refl
+wiring_of-event (Halt end) (Interface ni) = wiring_of-changed end.queue stopped ni
+wiring_of-event (Finish end) (Interface ni) = wiring_of-changed end.queue finished ni
+wiring_of-event (Change write) (Interface ni) = wiring_of-written write ni
 
-pub frames-happened : (event : Event) (parts : List Part)
-    → map frame_of (happened parts event) ≡ map frame_of parts
-frames-happened event parts =
-    frames-with_part (event_part event) (on_interface (event_done event)) (frame_of-event event)
+pub wirings-happened : (event : Event) (parts : List Part)
+    → map wiring_of (happened parts event) ≡ map wiring_of parts
+wirings-happened event parts =
+    wirings-with_part (event_part event) (on_interface (event_done event)) (wiring_of-event event)
     parts
 
 -- Nor do many.
-pub frames-switched : (events : List Event) (parts : List Part)
-    → map frame_of (switched events parts) ≡ map frame_of parts
-frames-switched = views-switched frame_of frame_of-event
+pub wirings-switched : (events : List Event) (parts : List Part)
+    → map wiring_of (switched events parts) ≡ map wiring_of parts
+wirings-switched = views-switched wiring_of wiring_of-event
 
 -- An event is done at its component.
 pub happened-set : (event : Event) (before now : List Part) (number : ℕ) (other new : Part)
-    → map frame_of now ≡ map frame_of before → number ≡ event_part event
-    → IsDoable (map frame_of before) event
+    → map wiring_of now ≡ map wiring_of before → number ≡ event_part event
+    → IsDoable (map wiring_of before) event
     → new ≡ on_interface (event_done event) (get_or now number other)
     → set now number new ≡ happened now event
-happened-set event before now number other new framed is doable to =
+happened-set event before now number other new wired_for is doable to =
     let there = doable.part in
-    let frames = ap length framed in
-    let size = length-map now frame_of in
+    let wirings = ap length wired_for in
+    let size = length-map now wiring_of in
     let bound : number < length now = omega arith in
     ap (set now number) to
     ∙ set-with_part now number (on_interface (event_done event)) other bound
@@ -131,31 +131,31 @@ pub switched-more : (events : List Event) (before now : List Part) (place : ℕ)
     (number : ℕ) (other new : Part) → place < length events
     → now ≡ switched (take place events) before
     → number ≡ event_part (get_or events place default)
-    → IsDoable (map frame_of before) (get_or events place default)
+    → IsDoable (map wiring_of before) (get_or events place default)
     → new ≡ on_interface (event_done (get_or events place default)) (get_or now number other)
     → set now number new ≡ switched (take (place + 1) events) before
 switched-more events before now place default number other new within so_far is doable to =
     let event = get_or events place default in
     happened-set event before now number other new
-    (ap (map frame_of) so_far ∙ frames-switched (take place events) before) is doable to
+    (ap (map wiring_of) so_far ∙ wirings-switched (take place events) before) is doable to
     ∙ ap (λ (parts : List Part). happened parts event) so_far
     ∙ sym (fold_push happened before (take place events) event)
     ∙ ap (fold happened before) (sym (take_more events place default within))
 
 -- What an event needs of its component, the component has.
 pub Suits-read : (event : Event) (parts now : List Part) (number : ℕ) (default : Part)
-    → map frame_of now ≡ map frame_of parts → IsDoable (map frame_of parts) event
-    → number ≡ event_part event → Suits event (frame_of (get_or now number default))
-Suits-read event parts now number default frames doable is =
+    → map wiring_of now ≡ map wiring_of parts → IsDoable (map wiring_of parts) event
+    → number ≡ event_part event → Suits event (wiring_of (get_or now number default))
+Suits-read event parts now number default wirings doable is =
     let part = doable.part in
-    let before = length-map parts frame_of in
-    let after = length-map now frame_of in
-    let same : length (map frame_of now) ≡ length (map frame_of parts) = ap length frames in
+    let before = length-map parts wiring_of in
+    let after = length-map now wiring_of in
+    let same : length (map wiring_of now) ≡ length (map wiring_of parts) = ap length wirings in
     let within : number < length now = omega arith in
-    let found : slice_get (map frame_of parts) (event_part event)
-    ≡ Some (frame_of (get_or now number default)) =
-    ap (λ (list : List Frame). slice_get list (event_part event)) (sym frames)
-    ∙ ap (slice_get (map frame_of now)) (sym is)
-    ∙ slice_get-map frame_of now number
-    ∙ ap (option_map frame_of) (slice_get-get_or now number default within) in
-    subst (λ (frame : Option Frame). IfSome frame (Suits event)) found doable.suits
+    let found : slice_get (map wiring_of parts) (event_part event)
+    ≡ Some (wiring_of (get_or now number default)) =
+    ap (λ (list : List Wiring). slice_get list (event_part event)) (sym wirings)
+    ∙ ap (slice_get (map wiring_of now)) (sym is)
+    ∙ slice_get-map wiring_of now number
+    ∙ ap (option_map wiring_of) (slice_get-get_or now number default within) in
+    subst (λ (wiring : Option Wiring). IfSome wiring (Suits event)) found doable.suits

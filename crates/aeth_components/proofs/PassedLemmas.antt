@@ -10,33 +10,35 @@ use Rattle.aeth_router.specs.Part.{emit_of, inputs_of, outputs_of}
 use Rattle.aeth_router.specs.Passing.{IsSole, passed}
 use Rattle.aeth_router.specs.declared.part.Part.{Part}
 use Rattle.aeth_router.specs.declared.part.Part.TheVariants.{Interface, Router, Stage, TableRouter}
-use Rattle.aeth_components.proofs.FrameLemmas.{AreDisjoint-parts, AreLinks-inputs, from-map}
-use Rattle.aeth_components.proofs.FrameLemmas.{inputs_of-frame, none-unless}
+use Rattle.aeth_components.proofs.WiringLemmas.{AreDisjoint-parts, AreLinks-inputs, from-map}
+use Rattle.aeth_components.proofs.WiringLemmas.{inputs_of-wiring, none-unless}
 use Rattle.aeth_components.proofs.CarriedLemmas.{carried-none, carried-sole}
-use Rattle.aeth_components.specs.{Ends.AreEnds, Frames.AreInputsApart, Frames.Frame, Frames.IsWired}
-use Rattle.aeth_components.specs.{Frames.frame_of, Frames.receives_by, Passing.passed_from}
-use Rattle.aeth_components.specs.{Seen.seen, declared.ends.Ends.Ends}
+use Rattle.aeth_components.specs.{Ends.AreEnds, Wirings.AreInputsApart, Wirings.Wiring}
+use Rattle.aeth_components.specs.{Wirings.IsWired, Wirings.wiring_of, Wirings.receives_by}
+use Rattle.aeth_components.specs.{Passing.passed_from, Seen.seen, declared.ends.Ends.Ends}
 
 module _ (parts : List Part) (wires : List (Option Flit)) (ends : Ends) (cycle : ℕ)
-    (wired : IsWired (map frame_of parts) (length wires))
-    (are : AreEnds (map frame_of parts) (length wires) ends) where
+    (wired : IsWired (map wiring_of parts) (length wires))
+    (are : AreEnds (map wiring_of parts) (length wires) ends) where
   -- Who receives on a wire is at its end.
   pub end-of : (i wire : ℕ) (part : Part) → slice_get parts i ≡ Some part
       → inputs_of part wire ≡ true → slice_get ends.receivers.items wire ≡ Some i
   end-of i wire part at is =
-      are.receives.at wire i (frame_of part) (map-at frame_of parts i part at) (sym (inputs_of-frame part wire) ∙ is)
+      are.receives.at wire i (wiring_of part) (map-at wiring_of parts i part at)
+      (sym (inputs_of-wiring part wire) ∙ is)
 
   -- And who is at the end of a wire receives there.
   pub input-of : (i wire : ℕ) (part : Part) → wire < length wires → slice_get parts i ≡ Some part
       → slice_get ends.receivers.items wire ≡ Some i → inputs_of part wire ≡ true
   input-of i wire part within at ends_at =
-      let (j, frame, there, receives) = are.received.some wire within in
-      let same : j ≡ i = same_Some j i (sym (are.receives.at wire j frame there receives) ∙ ends_at) in
-      let framed_too : frame ≡ frame_of part =
-      same_Some frame (frame_of part)
-      (sym there ∙ ap (slice_get (map frame_of parts)) same ∙ map-at frame_of parts i part at) in
-      inputs_of-frame part wire
-      ∙ ap (λ (frame : Frame). receives_by frame wire) (sym framed_too) ∙ receives
+      let (j, wiring, there, receives) = are.received.some wire within in
+      let same : j ≡ i =
+      same_Some j i (sym (are.receives.at wire j wiring there receives) ∙ ends_at) in
+      let wired_for_too : wiring ≡ wiring_of part =
+      same_Some wiring (wiring_of part)
+      (sym there ∙ ap (slice_get (map wiring_of parts)) same ∙ map-at wiring_of parts i part at) in
+      inputs_of-wiring part wire
+      ∙ ap (λ (wiring : Wiring). receives_by wiring wire) (sym wired_for_too) ∙ receives
 
   -- What goes from a wire to an output.
   pub passed-at : (i wire out : ℕ) (part : Part) → slice_get parts i ≡ Some part
@@ -50,9 +52,9 @@ module _ (parts : List Part) (wires : List (Option Flit)) (ends : Ends) (cycle :
       → (i : ℕ) × (part : Part) × (slice_get parts i ≡ Some part)
       × (slice_get ends.receivers.items wire ≡ Some i)
   receiver wire within =
-      let (i, frame, there, receives) = are.received.some wire within in
-      let (part, at, is) = from-map frame_of parts i frame there in
-      (i, part, at, are.receives.at wire i frame there receives)
+      let (i, wiring, there, receives) = are.received.some wire within in
+      let (part, at, is) = from-map wiring_of parts i wiring there in
+      (i, part, at, are.receives.at wire i wiring there receives)
 
   -- What goes to an output of a component comes by one of its inputs.
   pub passed-own : (i wire out : ℕ) (part : Part) → wire < length wires
@@ -93,11 +95,13 @@ module _ (parts : List Part) (wires : List (Option Flit)) (ends : Ends) (cycle :
       → CameFrom (passed_from ends.receivers.items parts wires cycle out) (length wires) arrival
       → carried arrival ≡ emit_of (seen wires part) cycle out
   passed-emits i out (Interface ni) arrival at over is came =
-      absurd (cc (are.others i (frame_of (Interface ni)) (map-at frame_of parts i (Interface ni) at) over))
+      absurd (cc (are.others i (wiring_of (Interface ni))
+      (map-at wiring_of parts i (Interface ni) at) over))
   passed-emits i out (Router router) arrival at over is came =
       emits i out (Router router) arrival _ at is came
-      (router-sole router (All-slice_get AreInputsApart (map frame_of parts) i
-      (frame_of (Router router)) are.received.apart (map-at frame_of parts i (Router router) at)) wires cycle out)
+      (router-sole router (All-slice_get AreInputsApart (map wiring_of parts) i
+      (wiring_of (Router router)) are.received.apart (map-at wiring_of parts i (Router router) at))
+      wires cycle out)
   passed-emits i out (TableRouter router) arrival at over is came =
       emits i out (TableRouter router) arrival _ at is came
       (table-sole router wires cycle out)
@@ -119,8 +123,11 @@ module _ (parts : List Part) (wires : List (Option Flit)) (ends : Ends) (cycle :
             (passed-own i wire out (Interface ni) within at is some),
       )))
   passed-none i out (Router router) arrival at less is came =
-      absurd (cc (are.first i (frame_of (Router router)) (map-at frame_of parts i (Router router) at) less))
+      absurd (cc (are.first i (wiring_of (Router router))
+      (map-at wiring_of parts i (Router router) at) less))
   passed-none i out (TableRouter router) arrival at less is came =
-      absurd (cc (are.first i (frame_of (TableRouter router)) (map-at frame_of parts i (TableRouter router) at) less))
+      absurd (cc (are.first i (wiring_of (TableRouter router))
+      (map-at wiring_of parts i (TableRouter router) at) less))
   passed-none i out (Stage stage) arrival at less is came =
-      absurd (cc (are.first i (frame_of (Stage stage)) (map-at frame_of parts i (Stage stage) at) less))
+      absurd (cc (are.first i (wiring_of (Stage stage)) (map-at wiring_of parts i (Stage stage) at)
+      less))

@@ -4,7 +4,7 @@ use Rattle.std.proofs.Common.{arith, List, [], ◌∷◌, length, drop, set, inl
 use Rattle.std.proofs.Common.{Option, is_some, slice_get, true, false, eq-eqb, ne_eqb, set-set}
 use Rattle.std.proofs.Common.{get_or-set_same, drop-drop}
 use Rattle.std.proofs.lemmas.{Bool.cases_eq, List.set-get_or, List.drop_all}
-use Rattle.aeth_components.specs.Queues.{drawn}
+use Rattle.aeth_components.specs.Queues.{dequeued}
 use Rattle.aeth_ni.specs.Interface.{InterfaceState, changed, queue_at}
 use Rattle.aeth_ni.specs.Limits.{max_count}
 use Rattle.aeth_ni.specs.Queue.{QueueState, capped, empty_queue, word_taken}
@@ -80,65 +80,66 @@ length-taken queue =
           rw (ne_eqb (length queue.received) 0 some) (length-drop 1 queue.received)
     ]
 
-pub length-drawn : (times : ℕ) (queue : QueueState)
-    → length (drawn times queue).received ≡ length queue.received - times
-length-drawn zero queue = omega arith
-length-drawn (suc times) queue =
-    let before = length-drawn times queue in
-    let here = length-taken (drawn times queue) in
+pub length-dequeued : (times : ℕ) (queue : QueueState)
+    → length (dequeued times queue).received ≡ length queue.received - times
+length-dequeued zero queue = omega arith
+length-dequeued (suc times) queue =
+    let before = length-dequeued times queue in
+    let here = length-taken (dequeued times queue) in
     omega arith
 
 -- No further turn changes anything then.
-pub drawn-more : (times more : ℕ) (queue : QueueState) → length queue.received ≤ times
-    → drawn (times + more) queue ≡ drawn times queue
-drawn-more times zero queue none =
-    ap (λ n. drawn n queue) (let same : times + 0 ≡ times = omega arith in same)
-drawn-more times (suc more) queue none =
-    let size = length-drawn (times + more) queue in
-    ap (λ n. drawn n queue)
+pub dequeued-more : (times more : ℕ) (queue : QueueState) → length queue.received ≤ times
+    → dequeued (times + more) queue ≡ dequeued times queue
+dequeued-more times zero queue none =
+    ap (λ n. dequeued n queue) (let same : times + 0 ≡ times = omega arith in same)
+dequeued-more times (suc more) queue none =
+    let size = length-dequeued (times + more) queue in
+    ap (λ n. dequeued n queue)
     (let same : times + suc more ≡ suc (times + more) = omega arith in same)
-    ∙ taken-none (drawn (times + more) queue) (omega arith) ∙ drawn-more times more queue none
+    ∙ taken-none (dequeued (times + more) queue) (omega arith) ∙ dequeued-more times more queue none
 
 -- How many are held once words were taken so many times.
-pub held-drawn : (number times : ℕ) (ni state : InterfaceState) → number < length ni.queues
-    → state ≡ changed number (drawn times) ni
+pub held-dequeued : (number times : ℕ) (ni state : InterfaceState) → number < length ni.queues
+    → state ≡ changed number (dequeued times) ni
     → length (queue_at state.queues number).received
     ≡ length (queue_at ni.queues number).received - times
-held-drawn number times ni state within is =
+held-dequeued number times ni state within is =
     ap (λ (state : InterfaceState). length (queue_at state.queues number).received) is
     ∙ ap (λ (queue : QueueState). length queue.received)
-    (queue_at-changed number (drawn times) ni within)
-    ∙ length-drawn times (queue_at ni.queues number)
+    (queue_at-changed number (dequeued times) ni within)
+    ∙ length-dequeued times (queue_at ni.queues number)
 
 -- Where all are taken, further turns change nothing.
-pub changed-drawn_more : (number times all : ℕ) (ni : InterfaceState) → times ≤ all
+pub changed-dequeued_more : (number times all : ℕ) (ni : InterfaceState) → times ≤ all
     → length (queue_at ni.queues number).received ≤ times
-    → changed number (λ queue. word_taken (drawn times queue)) ni ≡ changed number (drawn all) ni
-changed-drawn_more number times all ni most none =
+    → changed number (λ queue. word_taken (dequeued times queue)) ni
+    ≡ changed number (dequeued all) ni
+changed-dequeued_more number times all ni most none =
     let before = queue_at ni.queues number in
-    let size = length-drawn times before in
+    let size = length-dequeued times before in
     ap (λ (queue : QueueState). changed number (λ _. queue) ni)
-    (taken-none (drawn times before) (omega arith)
-    ∙ sym (drawn-more times (all - times) before none)
-    ∙ ap (λ n. drawn n before) (let whole : times + (all - times) ≡ all = omega arith in whole))
+    (taken-none (dequeued times before) (omega arith)
+    ∙ sym (dequeued-more times (all - times) before none)
+    ∙ ap (λ n. dequeued n before) (let whole : times + (all - times) ≡ all = omega arith in whole))
 
 -- The queue behind so many turns, in numbers.
-pub drawn-is : (times : ℕ) (queue : QueueState) → queue.owed ≤ max_count
-    → drawn times queue ≡ record queue {
+pub dequeued-is : (times : ℕ) (queue : QueueState) → queue.owed ≤ max_count
+    → dequeued times queue ≡ record queue {
       received = drop times queue.received;
       owed = capped (queue.owed + min times (length queue.received));
     }
-drawn-is zero queue within =
+dequeued-is zero queue within =
     let same : queue.owed ≡ capped (queue.owed + min 0 (length queue.received)) = omega arith in
     ap (λ n. record queue { owed = n }) same
-drawn-is (suc times) queue within =
+dequeued-is (suc times) queue within =
     let received = queue.received in
     let before : QueueState = record queue {
       received = drop times received;
       owed = capped (queue.owed + min times (length received));
     } in
     let size : length before.received ≡ length received - times = length-drop times received in
-    ap word_taken (drawn-is times queue within)
+    ap word_taken (dequeued-is times queue within)
     ∙ elim (cases_eq (length before.received) 0) [
       | inl none ↦
           let all : drop times received ≡ drop (suc times) received =

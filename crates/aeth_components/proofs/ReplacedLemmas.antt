@@ -18,9 +18,9 @@ use Rattle.aeth_router.specs.Router.{is_among}
 use Rattle.aeth_router.specs.declared.part.Part.{Part}
 use Rattle.aeth_router.specs.declared.part.Part.TheVariants.{Interface, Router, Stage, TableRouter}
 use Rattle.aeth_components.proofs.{MapLemmas.map-agree, PassedLemmas.end-of, PassedLemmas.input-of}
-use Rattle.aeth_components.specs.{Ends.AreEnds, Frames.IsWired, Frames.frame_of, Replacing.emptied}
-use Rattle.aeth_components.specs.{Replacing.without_held, Seen.all_seen, Seen.seen}
-use Rattle.aeth_components.specs.{declared.ends.Ends.Ends}
+use Rattle.aeth_components.specs.{Ends.AreEnds, Wirings.IsWired, Wirings.wiring_of}
+use Rattle.aeth_components.specs.{Replacing.emptied, Replacing.without_held, Seen.all_seen}
+use Rattle.aeth_components.specs.{Seen.seen, declared.ends.Ends.Ends}
 
 -- Wires that agree where a component receives are seen alike by it.
 held-agree : (wires other : List (Option Flit)) (incoming : List ℕ)
@@ -113,8 +113,8 @@ module _ (part : Part) (wires : List (Option Flit)) where
 
 -- A component stands at a place.
 module _ (parts : List Part) (wires : List (Option Flit)) (ends : Ends) (place : ℕ) (part : Part)
-    (wired : IsWired (map frame_of parts) (length wires))
-    (are : AreEnds (map frame_of parts) (length wires) ends)
+    (wired : IsWired (map wiring_of parts) (length wires))
+    (are : AreEnds (map wiring_of parts) (length wires) ends)
     (at : slice_get parts place ≡ Some part) where
   -- It receives on just the wires at whose ends its number is.
   pub receives-there : (wire : ℕ) → wire < length wires

@@ -12,14 +12,17 @@ use Rattle.aeth_ni.specs.{Queue.QueueState, Queue.empty_queue, Queue.word_taken}
 use Rattle.aeth_router.specs.declared.part.Part.{Part}
 use Rattle.aeth_router.specs.declared.part.Part.TheVariants.{Interface, Router, Stage, TableRouter}
 use Rattle.aeth_router.specs.declared.router_row.RouterRow.{RouterRow}
-use Rattle.aeth_components.specs.{declared.event.Event.Event, declared.lane.ChannelEnd.ChannelEnd}
-use Rattle.aeth_components.specs.{declared.lane.Lane.Lane, Changes.event_done, Changes.happened}
-use Rattle.aeth_components.specs.{Changes.on_interface, Changes.switched, Changes.told_at}
-use Rattle.aeth_components.specs.{Changes.told_by, Entering.entered, Entering.with_rows}
-use Rattle.aeth_components.specs.{Events.event_part, Lanes.is_open, Phases.Moment, Phases.asked_of}
-use Rattle.aeth_components.specs.{Phases.in_turn, Phases.pulled, Queues.drawn, Handing.HasEvent}
-use Rattle.aeth_components.specs.{Handing.IsFull, Handing.room_left, Seen.flits_landed}
-use Rattle.aeth_components.specs.{Seen.interfaces_driven, Sending.IsSending, Turns.sends_own}
+use Rattle.aeth_components.specs.{declared.event.Event.Event}
+use Rattle.aeth_components.specs.{declared.channel_state.ChannelEnd.ChannelEnd}
+use Rattle.aeth_components.specs.{declared.channel_state.ChannelState.ChannelState}
+use Rattle.aeth_components.specs.{Changes.event_done, Changes.happened, Changes.on_interface}
+use Rattle.aeth_components.specs.{Changes.switched, Changes.told_at, Changes.told_by}
+use Rattle.aeth_components.specs.{Entering.entered, Entering.with_rows, Events.event_part}
+use Rattle.aeth_components.specs.{ChannelStates.is_open, Phases.Moment, Phases.asked_of}
+use Rattle.aeth_components.specs.{Phases.in_turn, Phases.pulled, Queues.dequeued}
+use Rattle.aeth_components.specs.{Enqueuing.HasEvent, Enqueuing.IsFull, Enqueuing.room_left}
+use Rattle.aeth_components.specs.{Seen.flits_landed, Seen.interfaces_driven, Sending.IsSending}
+use Rattle.aeth_components.specs.{FlitsOnWires.sends_own}
 use Rattle.aeth_components.proofs.{AloneLemmas.slice_get-with_part_other, OwnLemmas.still-mute}
 use Rattle.aeth_components.proofs.{PartLemmas.views-with_part, QueueLemmas.taken-none}
 use Rattle.aeth_components.proofs.{QueueLemmas.taken-some, SeenPhases.views-landed}
@@ -72,27 +75,28 @@ room-taken queue = elim (cases_eq (length queue.received) 0) [
   | inr some ↦ ap room_left (taken-some queue some)
 ]
 
-room-drawn : (times : ℕ) (queue : QueueState) → room_left (drawn times queue) ≡ room_left queue
-room-drawn zero queue = refl
-room-drawn (suc times) queue = room-taken (drawn times queue) ∙ room-drawn times queue
+room-dequeued : (times : ℕ) (queue : QueueState)
+    → room_left (dequeued times queue) ≡ room_left queue
+room-dequeued zero queue = refl
+room-dequeued (suc times) queue = room-taken (dequeued times queue) ∙ room-dequeued times queue
 
-rooms-drawn : (queue times : ℕ) (part : Part)
-    → rooms_of (on_interface (changed queue (drawn times)) part) ≡ rooms_of part
-rooms-drawn queue times (Interface ni) =
+rooms-dequeued : (queue times : ℕ) (part : Part)
+    → rooms_of (on_interface (changed queue (dequeued times)) part) ≡ rooms_of part
+rooms-dequeued queue times (Interface ni) =
     ap (λ (rooms : List ℕ). Some rooms) (map-set_same room_left ni.queues queue
-    (drawn times (queue_at ni.queues queue)) (empty_queue 0)
-    (room-drawn times (queue_at ni.queues queue)))
-rooms-drawn queue times (Router router) = refl
-rooms-drawn queue times (TableRouter router) = refl
-rooms-drawn queue times (Stage stage) = refl
+    (dequeued times (queue_at ni.queues queue)) (empty_queue 0)
+    (room-dequeued times (queue_at ni.queues queue)))
+rooms-dequeued queue times (Router router) = refl
+rooms-dequeued queue times (TableRouter router) = refl
+rooms-dequeued queue times (Stage stage) = refl
 
-rooms-pulled : (cycle : ℕ) (parts : List Part) (lane : Lane)
-    → map rooms_of (pulled cycle parts lane).0 ≡ map rooms_of parts
-rooms-pulled cycle parts lane = elim (cases_Bool (is_open lane cycle)) [
+rooms-pulled : (cycle : ℕ) (parts : List Part) (channel_state : ChannelState)
+    → map rooms_of (pulled cycle parts channel_state).0 ≡ map rooms_of parts
+rooms-pulled cycle parts channel_state = elim (cases_Bool (is_open channel_state cycle)) [
   | inl opened ↦
-      rw opened (views-with_part rooms_of lane.receiver.ni.0
-      (on_interface (changed lane.receiver.queue (drawn (asked_of lane))))
-      (rooms-drawn lane.receiver.queue (asked_of lane)) parts)
+      rw opened (views-with_part rooms_of channel_state.receiver.ni.0
+      (on_interface (changed channel_state.receiver.queue (dequeued (asked_of channel_state))))
+      (rooms-dequeued channel_state.receiver.queue (asked_of channel_state)) parts)
   | inr closed ↦ rw closed refl
 ]
 
@@ -102,7 +106,7 @@ pub IsFull-pulled : (cycle : ℕ) (moment : Moment) (end : ChannelEnd) → IsFul
 IsFull-pulled cycle moment =
     IsFull-same moment.parts (in_turn (pulled cycle) moment).parts
     (views-turns (pulled cycle) rooms_of (rooms-pulled cycle)
-    (range_with_len 0 (length moment.lanes)) moment)
+    (range_with_len 0 (length moment.channel_states)) moment)
 
 -- So they are where flits land.
 rooms-landed : (arrival : Option Arrival) (queues : List QueueState)

@@ -17,17 +17,19 @@ use Rattle.aeth_router.specs.declared.part.Part.TheVariants.{Interface, Router, 
 use Rattle.aeth_router.specs.declared.router_row.RouterRow.{RouterRow}
 use Rattle.aeth_ni.specs.Component.{arrival_of, interface_absorb, last_of}
 use Rattle.aeth_ni.specs.Interface.{InterfaceState}
-use Rattle.aeth_components.specs.{Changes.on_interface, Counting.counted, Counting.noted}
-use Rattle.aeth_components.specs.{Entering.TakesRows, Entering.entered, Entering.with_rows}
-use Rattle.aeth_components.specs.{First.HasSender, First.IsFirst, Making.link_stages}
-use Rattle.aeth_components.specs.{Making.made_interface, Making.made_router, Making.made_stage}
-use Rattle.aeth_components.specs.{Making.made_stages, Making.new_parts, Queues.brought_by}
-use Rattle.aeth_components.specs.{Queues.words_for, Seen.all_seen, Seen.flits_landed}
-use Rattle.aeth_components.specs.{Seen.interfaces_latched, Seen.landed, Seen.seen, Turns.sends_own}
-use Rattle.aeth_components.specs.{declared.lane.Lane.Lane, declared.making.RouterKind.RouterKind}
-use Rattle.aeth_components.specs.{declared.making.RouterKind.TheVariants.ByHeader}
-use Rattle.aeth_components.specs.{declared.making.RouterKind.TheVariants.ByTable}
-use Rattle.aeth_components.proofs.FrameLemmas.{from-map}
+use Rattle.aeth_components.specs.Changes.{on_interface}
+use Rattle.aeth_components.specs.Counting.{counted, noted}
+use Rattle.aeth_components.specs.Entering.{TakesRows, entered, with_rows}
+use Rattle.aeth_components.specs.First.{HasSender, IsFirst}
+use Rattle.aeth_components.specs.Making.{link_stages, made_interface, made_router, made_stage}
+use Rattle.aeth_components.specs.Making.{made_stages, new_parts}
+use Rattle.aeth_components.specs.Queues.{brought_by, words_for}
+use Rattle.aeth_components.specs.Seen.{all_seen, flits_landed, interfaces_latched, landed, seen}
+use Rattle.aeth_components.specs.FlitsOnWires.{sends_own}
+use Rattle.aeth_components.specs.declared.channel_state.ChannelState.{ChannelState}
+use Rattle.aeth_components.specs.declared.making.RouterKind.{RouterKind}
+use Rattle.aeth_components.specs.declared.making.RouterKind.TheVariants.{ByHeader, ByTable}
+use Rattle.aeth_components.proofs.WiringLemmas.{from-map}
 
 module _ (wires : List (Option Flit)) where
   -- What a router holds is nothing to the rows that enter its table.
@@ -103,24 +105,25 @@ module _ (wires : List (Option Flit)) where
   brought_from-landed queue (suc place) (part ∷ parts) = brought_from-landed queue place parts
 
   -- So the same is counted and noted.
-  pub counted-landed : (cycle : ℕ) (parts : List Part) (lanes : List Lane)
-      → map (counted cycle (interfaces_latched wires parts)) lanes
-      ≡ map (counted cycle (all_seen wires (flits_landed wires parts))) lanes
+  pub counted-landed : (cycle : ℕ) (parts : List Part) (channel_states : List ChannelState)
+      → map (counted cycle (interfaces_latched wires parts)) channel_states
+      ≡ map (counted cycle (all_seen wires (flits_landed wires parts))) channel_states
   counted-landed cycle parts [] = refl
-  counted-landed cycle parts (lane ∷ lanes) =
+  counted-landed cycle parts (channel_state ∷ channel_states) =
       rw (
-        brought_from-landed lane.receiver.queue lane.receiver.ni.0 parts,
-        counted-landed cycle parts lanes,
+        brought_from-landed channel_state.receiver.queue channel_state.receiver.ni.0 parts,
+        counted-landed cycle parts channel_states,
       ) refl
 
-  pub noted-landed : (cycle : ℕ) (parts : List Part) (lanes : List Lane) (landings : List ℕ)
-      → fold (noted cycle (interfaces_latched wires parts)) landings lanes
-      ≡ fold (noted cycle (all_seen wires (flits_landed wires parts))) landings lanes
+  pub noted-landed : (cycle : ℕ) (parts : List Part) (channel_states : List ChannelState)
+      (landings : List ℕ)
+      → fold (noted cycle (interfaces_latched wires parts)) landings channel_states
+      ≡ fold (noted cycle (all_seen wires (flits_landed wires parts))) landings channel_states
   noted-landed cycle parts [] landings = refl
-  noted-landed cycle parts (lane ∷ lanes) landings =
-      rw (brought_from-landed lane.receiver.queue lane.receiver.ni.0 parts)
-      (noted-landed cycle parts lanes
-      (noted cycle (all_seen wires (flits_landed wires parts)) landings lane))
+  noted-landed cycle parts (channel_state ∷ channel_states) landings =
+      rw (brought_from-landed channel_state.receiver.queue channel_state.receiver.ni.0 parts)
+      (noted-landed cycle parts channel_states
+      (noted cycle (all_seen wires (flits_landed wires parts)) landings channel_state))
 
   -- The same components send something of their own.
   pub sends_own-seen : (cycle : ℕ) (part : Part)

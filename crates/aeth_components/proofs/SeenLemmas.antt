@@ -16,16 +16,17 @@ use Rattle.aeth_router.specs.declared.part.Part.TheVariants.{Interface, Router, 
 use Rattle.aeth_components.specs.Changes.{at_end, event_done, happened, on_interface, switched}
 use Rattle.aeth_components.specs.Changes.{told_at, told_by, with_part}
 use Rattle.aeth_components.specs.Events.{event_part}
-use Rattle.aeth_components.specs.Frames.{frame_of}
-use Rattle.aeth_components.specs.Lanes.{is_open}
-use Rattle.aeth_components.specs.Phases.{Moment, asked_of, drawn_out, handed_on, in_turn, left_of}
-use Rattle.aeth_components.specs.Phases.{pulled, refilled, turned, turned_at}
-use Rattle.aeth_components.specs.Queues.{drawn, draws, filled, fits}
+use Rattle.aeth_components.specs.Wirings.{wiring_of}
+use Rattle.aeth_components.specs.ChannelStates.{is_open}
+use Rattle.aeth_components.specs.Phases.{Moment, asked_of, dequeued_by, enqueued_by, in_turn}
+use Rattle.aeth_components.specs.Phases.{left_of, pulled, refilled, turned, turned_at}
+use Rattle.aeth_components.specs.Queues.{dequeued, dequeues, filled, fits}
 use Rattle.aeth_components.specs.Seen.{all_seen, seen}
 use Rattle.aeth_components.specs.declared.event.Event.{Event}
 use Rattle.aeth_components.specs.declared.event.Event.TheVariants.{Halt, Finish, Change}
-use Rattle.aeth_components.specs.declared.lane.{ChannelEnd.ChannelEnd, Lane.Lane}
-use Rattle.aeth_components.proofs.FrameLemmas.{views-map}
+use Rattle.aeth_components.specs.declared.channel_state.ChannelEnd.{ChannelEnd}
+use Rattle.aeth_components.specs.declared.channel_state.ChannelState.{ChannelState}
+use Rattle.aeth_components.proofs.WiringLemmas.{views-map}
 use Rattle.aeth_components.proofs.TurnLemmas.{pulled-closed, pulled-open, refilled-closed}
 use Rattle.aeth_components.proofs.TurnLemmas.{refilled-open}
 
@@ -43,21 +44,22 @@ KeepsTold maps = (queue : ℕ) (tells : QueueState → ℕ) (part : Part)
     → told_by queue tells (maps part) ≡ told_by queue tells part
 
 -- What is done in a turn, with the components mapped.
-abbrev pub done_with : (Part → Part) → List Part × Lane → List Part × Lane
+abbrev pub done_with : (Part → Part) → List Part × ChannelState → List Part × ChannelState
 done_with maps done = (map maps done.0, done.1)
 
 abbrev pub moment_with : (Part → Part) → Moment → Moment
-moment_with maps moment = record { parts = map maps moment.parts; lanes = moment.lanes }
+moment_with maps moment =
+    record { parts = map maps moment.parts; channel_states = moment.channel_states }
 
 -- A turn that commutes with a map does so when all channels have it.
-module _ (maps : Part → Part) (turn : List Part → Lane → List Part × Lane)
-    (commutes : (parts : List Part) (lane : Lane)
-    → turn (map maps parts) lane ≡ done_with maps (turn parts lane)) where
-  turned_at-map : (moment : Moment) (number : ℕ) (found : Option Lane)
+module _ (maps : Part → Part) (turn : List Part → ChannelState → List Part × ChannelState)
+    (commutes : (parts : List Part) (channel_state : ChannelState)
+    → turn (map maps parts) channel_state ≡ done_with maps (turn parts channel_state)) where
+  turned_at-map : (moment : Moment) (number : ℕ) (found : Option ChannelState)
       → turned_at turn (moment_with maps moment) number found
       ≡ moment_with maps (turned_at turn moment number found)
   turned_at-map moment number None = refl
-  turned_at-map moment number (Some lane) = rw (commutes moment.parts lane) refl
+  turned_at-map moment number (Some channel_state) = rw (commutes moment.parts channel_state) refl
 
   turns-map : (numbers : List ℕ) (moment : Moment)
       → fold (turned turn) (moment_with maps moment) numbers
@@ -65,12 +67,12 @@ module _ (maps : Part → Part) (turn : List Part → Lane → List Part × Lane
   turns-map [] moment = refl
   turns-map (number ∷ numbers) moment =
       ap (λ (moment : Moment). fold (turned turn) moment numbers)
-      (turned_at-map moment number (slice_get moment.lanes number))
+      (turned_at-map moment number (slice_get moment.channel_states number))
       ∙ turns-map numbers (turned turn moment number)
 
   pub in_turn-map : (moment : Moment)
       → in_turn turn (moment_with maps moment) ≡ moment_with maps (in_turn turn moment)
-  in_turn-map moment = turns-map (range_with_len 0 (length moment.lanes)) moment
+  in_turn-map moment = turns-map (range_with_len 0 (length moment.channel_states)) moment
 
 -- A change of one interface.
 with_part-map : (maps : Part → Part) (number : ℕ) (change : InterfaceState → InterfaceState)
@@ -117,45 +119,51 @@ module _ (maps : Part → Part) (keeps : KeepsQueues maps) (told : KeepsTold map
       (slice_get-map maps parts end.ni.0)
       ∙ told_from-map end.queue tells (slice_get parts end.ni.0)
 
-  -- A channel hands on, and its receiver takes.
-  handed_on-map : (left : List ℕ) (parts : List Part) (lane : Lane)
-      → handed_on left (map maps parts) lane ≡ done_with maps (handed_on left parts lane)
-  handed_on-map left parts lane =
-      ap₂ (λ (parts : List Part) (n : ℕ). (parts, record lane { handed = lane.handed + n }))
-      (at_end-map lane.sender (filled left) parts) (told_at-map lane.sender (fits left) parts)
+  -- A channel enqueues, and its receiver takes.
+  enqueued_by-map : (left : List ℕ) (parts : List Part) (channel_state : ChannelState)
+      → enqueued_by left (map maps parts) channel_state
+      ≡ done_with maps (enqueued_by left parts channel_state)
+  enqueued_by-map left parts channel_state =
+      ap₂ (λ (parts : List Part) (n : ℕ).
+      (parts, record channel_state { enqueued = channel_state.enqueued + n }))
+      (at_end-map channel_state.sender (filled left) parts)
+      (told_at-map channel_state.sender (fits left) parts)
 
-  pub refilled-map : (words : List ℕ) (cycle : ℕ) (parts : List Part) (lane : Lane)
-      → refilled words cycle (map maps parts) lane
-      ≡ done_with maps (refilled words cycle parts lane)
-  refilled-map words cycle parts lane =
-      elim (cases_Bool (is_open lane cycle)) [
+  pub refilled-map : (words : List ℕ) (cycle : ℕ) (parts : List Part) (channel_state : ChannelState)
+      → refilled words cycle (map maps parts) channel_state
+      ≡ done_with maps (refilled words cycle parts channel_state)
+  refilled-map words cycle parts channel_state =
+      elim (cases_Bool (is_open channel_state cycle)) [
         | inl opened ↦
-            refilled-open words cycle (map maps parts) lane opened
-            ∙ handed_on-map (left_of words lane) parts lane
-            ∙ ap (done_with maps) (sym (refilled-open words cycle parts lane opened))
+            refilled-open words cycle (map maps parts) channel_state opened
+            ∙ enqueued_by-map (left_of words channel_state) parts channel_state
+            ∙ ap (done_with maps) (sym (refilled-open words cycle parts channel_state opened))
         | inr closed ↦
-            refilled-closed words cycle (map maps parts) lane closed
-            ∙ ap (done_with maps) (sym (refilled-closed words cycle parts lane closed))
+            refilled-closed words cycle (map maps parts) channel_state closed
+            ∙ ap (done_with maps) (sym (refilled-closed words cycle parts channel_state closed))
       ]
 
-  drawn_out-map : (parts : List Part) (lane : Lane)
-      → drawn_out (map maps parts) lane ≡ done_with maps (drawn_out parts lane)
-  drawn_out-map parts lane =
-      ap₂ (λ (parts : List Part) (n : ℕ). (parts, record lane { taken = lane.taken + n }))
-      (at_end-map lane.receiver (drawn (asked_of lane)) parts)
-      (told_at-map lane.receiver (draws (asked_of lane)) parts)
+  dequeued_by-map : (parts : List Part) (channel_state : ChannelState)
+      → dequeued_by (map maps parts) channel_state
+      ≡ done_with maps (dequeued_by parts channel_state)
+  dequeued_by-map parts channel_state =
+      ap₂ (λ (parts : List Part) (n : ℕ).
+      (parts, record channel_state { taken = channel_state.taken + n }))
+      (at_end-map channel_state.receiver (dequeued (asked_of channel_state)) parts)
+      (told_at-map channel_state.receiver (dequeues (asked_of channel_state)) parts)
 
-  pub pulled-map : (cycle : ℕ) (parts : List Part) (lane : Lane)
-      → pulled cycle (map maps parts) lane ≡ done_with maps (pulled cycle parts lane)
-  pulled-map cycle parts lane =
-      elim (cases_Bool (is_open lane cycle)) [
+  pub pulled-map : (cycle : ℕ) (parts : List Part) (channel_state : ChannelState)
+      → pulled cycle (map maps parts) channel_state
+      ≡ done_with maps (pulled cycle parts channel_state)
+  pulled-map cycle parts channel_state =
+      elim (cases_Bool (is_open channel_state cycle)) [
         | inl opened ↦
-            pulled-open cycle (map maps parts) lane opened
-            ∙ drawn_out-map parts lane
-            ∙ ap (done_with maps) (sym (pulled-open cycle parts lane opened))
+            pulled-open cycle (map maps parts) channel_state opened
+            ∙ dequeued_by-map parts channel_state
+            ∙ ap (done_with maps) (sym (pulled-open cycle parts channel_state opened))
         | inr closed ↦
-            pulled-closed cycle (map maps parts) lane closed
-            ∙ ap (done_with maps) (sym (pulled-closed cycle parts lane closed))
+            pulled-closed cycle (map maps parts) channel_state closed
+            ∙ ap (done_with maps) (sym (pulled-closed cycle parts channel_state closed))
       ]
 
 -- Interfaces tell of what came last whatever is done to their queues.
@@ -209,14 +217,15 @@ module _ (wires : List (Option Flit)) where
       (pulled-map (seen wires) (keeps-seen wires) (told-seen wires) cycle)
 
   -- Frames stay, and the wires of components.
-  pub frame_of-seen : (part : Part) → frame_of (seen wires part) ≡ frame_of part
-  frame_of-seen (Interface ni) = refl
-  frame_of-seen (Router router) = refl
-  frame_of-seen (TableRouter router) = refl
-  frame_of-seen (Stage stage) = refl
+  pub wiring_of-seen : (part : Part) → wiring_of (seen wires part) ≡ wiring_of part
+  wiring_of-seen (Interface ni) = refl
+  wiring_of-seen (Router router) = refl
+  wiring_of-seen (TableRouter router) = refl
+  wiring_of-seen (Stage stage) = refl
 
-  pub frames-seen : (parts : List Part) → map frame_of (all_seen wires parts) ≡ map frame_of parts
-  frames-seen = views-map frame_of (seen wires) frame_of-seen
+  pub wirings-seen : (parts : List Part)
+      → map wiring_of (all_seen wires parts) ≡ map wiring_of parts
+  wirings-seen = views-map wiring_of (seen wires) wiring_of-seen
 
   pub outputs_of-seen : (part : Part) → outputs_of (seen wires part) ≡ outputs_of part
   outputs_of-seen (Interface ni) = refl

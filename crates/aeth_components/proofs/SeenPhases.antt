@@ -14,16 +14,17 @@ use Rattle.aeth_components.specs.{Changes.event_done, Changes.on_interface, Chan
 use Rattle.aeth_components.specs.{Components.Runs, Components.driven_from, Components.latched_from}
 use Rattle.aeth_components.specs.{Components.latched_of, Components.ready_of}
 use Rattle.aeth_components.specs.{Components.switched_from, Components.wires_driven}
-use Rattle.aeth_components.specs.{Frames.frame_of, Phases.Moment, Phases.in_turn, Phases.pulled}
+use Rattle.aeth_components.specs.{Wirings.wiring_of, Phases.Moment, Phases.in_turn, Phases.pulled}
 use Rattle.aeth_components.specs.{Phases.refilled, Passing.way_of, Seen.all_seen, Seen.flits_landed}
 use Rattle.aeth_components.specs.{Seen.interfaces_driven, Seen.landed, Seen.seen, Seen.taken_of}
-use Rattle.aeth_components.specs.{declared.event.Event.Event, declared.lane.Lane.Lane}
-use Rattle.aeth_components.proofs.FrameLemmas.{frame_of-absorbed, frames-after, views-map}
-use Rattle.aeth_components.proofs.PartLemmas.{frames-switched, views-switched}
-use Rattle.aeth_components.proofs.SeenLemmas.{frames-seen, moment_with, pulled-seen, refilled-seen}
+use Rattle.aeth_components.specs.{declared.event.Event.Event}
+use Rattle.aeth_components.specs.{declared.channel_state.ChannelState.ChannelState}
+use Rattle.aeth_components.proofs.WiringLemmas.{wiring_of-absorbed, wirings-after, views-map}
+use Rattle.aeth_components.proofs.PartLemmas.{wirings-switched, views-switched}
+use Rattle.aeth_components.proofs.SeenLemmas.{wirings-seen, moment_with, pulled-seen, refilled-seen}
 use Rattle.aeth_components.proofs.SeenLemmas.{switched-seen}
 use Rattle.aeth_components.proofs.SkipLemmas.{length-turns}
-use Rattle.aeth_components.proofs.TurnLemmas.{frames-pulled, frames-refilled, frames-turns}
+use Rattle.aeth_components.proofs.TurnLemmas.{wirings-pulled, wirings-refilled, wirings-turns}
 use Rattle.aeth_components.proofs.TurnLemmas.{views-pulled, views-refilled, views-turns}
 
 -- What a component had before it latches is nothing to it.
@@ -88,7 +89,8 @@ pub ready-seen : (words : List ℕ) (events : List Event) (cycle : ℕ) (wires :
     ≡ moment_with (seen wires) (ready_of words events cycle moment)
 ready-seen words events cycle wires moment =
     ap (λ (parts : List Part).
-    in_turn (refilled words cycle) (record { parts = parts; lanes = moment.lanes }))
+    in_turn (refilled words cycle)
+    (record { parts = parts; channel_states = moment.channel_states }))
     (switched-seen wires events moment.parts)
     ∙ refilled-seen wires words cycle (switched_from events moment)
 
@@ -101,7 +103,7 @@ taken-seen : (cycle : ℕ) (old new : List (Option Flit)) (moment : Moment)
 taken-seen cycle old new moment =
     sym (pulled-seen new cycle (driven_from cycle (moment_with (seen old) moment)))
     ∙ ap (λ (parts : List Part).
-    in_turn (pulled cycle) (record { parts = parts; lanes = moment.lanes }))
+    in_turn (pulled cycle) (record { parts = parts; channel_states = moment.channel_states }))
     (all-driven old new cycle moment.parts)
     ∙ pulled-seen new cycle (record moment { parts = interfaces_driven cycle moment.parts })
 
@@ -116,10 +118,10 @@ latched-seen words events cycle wires new_wires moment =
     let drained = in_turn (pulled cycle) (driven_from cycle (moment_with (seen wires) ready)) in
     ap (λ (moment : Moment). latched_from new_wires (in_turn (pulled cycle) (driven_from cycle moment)))
     (ready-seen words events cycle wires moment)
-    ∙ ap (λ (parts : List Part). record { parts = parts; lanes = drained.lanes })
+    ∙ ap (λ (parts : List Part). record { parts = parts; channel_states = drained.channel_states })
     (all-held new_wires drained.parts)
     ∙ ap (latched_from new_wires) (taken-seen cycle wires new_wires ready)
-    ∙ ap (λ (parts : List Part). record { parts = parts; lanes = taken.lanes })
+    ∙ ap (λ (parts : List Part). record { parts = parts; channel_states = taken.channel_states })
     (absorbed-landed new_wires new_wires taken.parts)
 
 -- A change of interfaces keeps of all components what it keeps of interfaces.
@@ -137,11 +139,11 @@ pub views-kept : {X : Type 0} (view : Part → X) (change : InterfaceState → I
 views-kept view change kept = views-map view (on_interface change) (view-kept view change kept)
 
 -- Frames and slot tables stay where interfaces drive or latch.
-pub frames-driven : (cycle : ℕ) (parts : List Part)
-    → map frame_of (interfaces_driven cycle parts) ≡ map frame_of parts
-frames-driven cycle =
-    views-kept frame_of (λ ni. interface_after ni cycle)
-    (λ ni. cc (frames-after (Interface ni ∷ []) cycle))
+pub wirings-driven : (cycle : ℕ) (parts : List Part)
+    → map wiring_of (interfaces_driven cycle parts) ≡ map wiring_of parts
+wirings-driven cycle =
+    views-kept wiring_of (λ ni. interface_after ni cycle)
+    (λ ni. cc (wirings-after (Interface ni ∷ []) cycle))
 
 -- What stays of an interface however it latches stays where flits land.
 module _ {X : Type 0} (view : Part → X)
@@ -158,9 +160,9 @@ module _ {X : Type 0} (view : Part → X)
       views-kept view (λ ni. landed (flit_on wires ni.entering.0) ni)
       (λ ni. view-landed (flit_on wires ni.entering.0) ni)
 
-pub frames-landed : (wires : List (Option Flit)) (parts : List Part)
-    → map frame_of (flits_landed wires parts) ≡ map frame_of parts
-frames-landed = views-landed frame_of frame_of-absorbed
+pub wirings-landed : (wires : List (Option Flit)) (parts : List Part)
+    → map wiring_of (flits_landed wires parts) ≡ map wiring_of parts
+wirings-landed = views-landed wiring_of wiring_of-absorbed
 
 -- How components pass flits on stays in every phase.
 way-changed : (queue : ℕ) (change : QueueState → QueueState) (part : Part)
@@ -176,7 +178,7 @@ pub ways-refilled : (words : List ℕ) (cycle : ℕ) (moment : Moment)
     → map way_of (in_turn (refilled words cycle) moment).parts ≡ map way_of moment.parts
 ways-refilled words cycle moment =
     views-turns (refilled words cycle) way_of (views-refilled way_of way-changed words cycle)
-    (range_with_len 0 (length moment.lanes)) moment
+    (range_with_len 0 (length moment.channel_states)) moment
 
 pub ways-driven : (cycle : ℕ) (parts : List Part)
     → map way_of (interfaces_driven cycle parts) ≡ map way_of parts
@@ -186,7 +188,7 @@ pub ways-pulled : (cycle : ℕ) (moment : Moment)
     → map way_of (in_turn (pulled cycle) moment).parts ≡ map way_of moment.parts
 ways-pulled cycle moment =
     views-turns (pulled cycle) way_of (views-pulled way_of way-changed cycle)
-    (range_with_len 0 (length moment.lanes)) moment
+    (range_with_len 0 (length moment.channel_states)) moment
 
 pub ways-landed : (wires : List (Option Flit)) (parts : List Part)
     → map way_of (flits_landed wires parts) ≡ map way_of parts
@@ -196,39 +198,41 @@ ways-landed = views-landed way_of (λ arrival ni. refl)
 -- are seen with what their wires have.
 pub Runs-landed : (words : List ℕ) (events : List Event) (cycle : ℕ)
     (wires new_wires : List (Option Flit)) (parts taken_parts landed_parts : List Part)
-    (lanes taken_lanes : List Lane)
-    → record { parts = taken_parts; lanes = taken_lanes }
-    ≡ taken_of words events cycle (record { parts = parts; lanes = lanes })
+    (channel_states taken_channel_states : List ChannelState)
+    → record { parts = taken_parts; channel_states = taken_channel_states }
+    ≡ taken_of words events cycle (record { parts = parts; channel_states = channel_states })
     → new_wires ≡ wires_driven (ready_of words events cycle
-    (record { parts = all_seen wires parts; lanes = lanes })).parts (length wires) cycle
+    (record { parts = all_seen wires parts; channel_states = channel_states })).parts (length wires)
+    cycle
     → landed_parts ≡ flits_landed new_wires taken_parts
     → Runs words events cycle wires new_wires
-    (record { parts = all_seen wires parts; lanes = lanes })
-    (record { parts = all_seen new_wires landed_parts; lanes = taken_lanes })
-Runs-landed words events cycle wires new_wires parts taken_parts landed_parts lanes taken_lanes
+    (record { parts = all_seen wires parts; channel_states = channel_states })
+    (record { parts = all_seen new_wires landed_parts; channel_states = taken_channel_states })
+Runs-landed words events cycle wires new_wires parts taken_parts landed_parts channel_states
+    taken_channel_states
     takes drives lands =
-    let moment : Moment = record { parts = parts; lanes = lanes } in
+    let moment : Moment = record { parts = parts; channel_states = channel_states } in
     let ready = ready_of words events cycle moment in
     record {
       wires = drives;
       moment = ap (λ (parts : List Part).
-          record { parts = all_seen new_wires parts; lanes = taken_lanes }) lands
+          record { parts = all_seen new_wires parts; channel_states = taken_channel_states }) lands
           ∙ ap (λ (moment : Moment).
           record moment { parts = all_seen new_wires (flits_landed new_wires moment.parts) }) takes
           ∙ sym (latched-seen words events cycle wires new_wires moment);
-      frames = frames-seen new_wires landed_parts ∙ ap (map frame_of) lands
-          ∙ frames-landed new_wires taken_parts
-          ∙ ap (λ (moment : Moment). map frame_of moment.parts) takes
-          ∙ frames-turns (pulled cycle) (frames-pulled cycle)
-          (range_with_len 0 (length ready.lanes))
+      wirings = wirings-seen new_wires landed_parts ∙ ap (map wiring_of) lands
+          ∙ wirings-landed new_wires taken_parts
+          ∙ ap (λ (moment : Moment). map wiring_of moment.parts) takes
+          ∙ wirings-turns (pulled cycle) (wirings-pulled cycle)
+          (range_with_len 0 (length ready.channel_states))
           (record ready { parts = interfaces_driven cycle ready.parts })
-          ∙ frames-driven cycle ready.parts
-          ∙ frames-turns (refilled words cycle) (frames-refilled words cycle)
-          (range_with_len 0 (length lanes)) (switched_from events moment)
-          ∙ frames-switched events parts ∙ sym (frames-seen wires parts);
-      count = ap (λ (moment : Moment). length moment.lanes) takes
-          ∙ length-turns (pulled cycle) (range_with_len 0 (length ready.lanes))
+          ∙ wirings-driven cycle ready.parts
+          ∙ wirings-turns (refilled words cycle) (wirings-refilled words cycle)
+          (range_with_len 0 (length channel_states)) (switched_from events moment)
+          ∙ wirings-switched events parts ∙ sym (wirings-seen wires parts);
+      count = ap (λ (moment : Moment). length moment.channel_states) takes
+          ∙ length-turns (pulled cycle) (range_with_len 0 (length ready.channel_states))
           (record ready { parts = interfaces_driven cycle ready.parts })
-          ∙ length-turns (refilled words cycle) (range_with_len 0 (length lanes))
+          ∙ length-turns (refilled words cycle) (range_with_len 0 (length channel_states))
           (switched_from events moment);
     }

@@ -12,9 +12,9 @@ use Rattle.aeth_clocked.proofs.FewLemmas.{chosen-few}
 use Rattle.aeth_router.specs.Part.{emit_of, outputs_of}
 use Rattle.aeth_router.specs.declared.part.Part.{Part}
 use Rattle.aeth_router.specs.declared.part.Part.TheVariants.{Interface, Router, Stage, TableRouter}
-use Rattle.aeth_components.specs.{Components.wires_driven, Frames.IsWired, Frames.frame_of}
-use Rattle.aeth_components.specs.{Turns.flits_on, Turns.sends_own}
-use Rattle.aeth_components.proofs.FrameLemmas.{AreDisjoint-parts, AreLinks-outputs}
+use Rattle.aeth_components.specs.{Components.wires_driven, Wirings.IsWired, Wirings.wiring_of}
+use Rattle.aeth_components.specs.{FlitsOnWires.flits_on, FlitsOnWires.sends_own}
+use Rattle.aeth_components.proofs.WiringLemmas.{AreDisjoint-parts, AreLinks-outputs}
 
 -- The wire on which an interface sends.
 abbrev leaving_of : Part → ℕ
@@ -121,7 +121,7 @@ count_by-map test f (x ∷ xs) =
     ∙ ap (λ n. cond (test (f x)) 1 0 + n) (count_by-map test f xs)
     ∙ sym (sum_by-cons (λ x. cond (test (f x)) 1 0) x xs)
 
-module _ (cycle count : ℕ) (parts : List Part) (wired : IsWired (map frame_of parts) count) where
+module _ (cycle count : ℕ) (parts : List Part) (wired : IsWired (map wiring_of parts) count) where
   leavings-chosen : AreChosen count (leavings cycle parts)
   leavings-chosen = record {
     distinct = leavings-distinct cycle parts (AreDisjoint-parts parts count wired);

@@ -11,12 +11,13 @@ use Rattle.aeth_router.specs.declared.part.Part.TheVariants.{Interface, Router, 
 use Rattle.aeth_components.specs.declared.event.Event.{Event}
 use Rattle.aeth_components.specs.declared.event.Event.TheVariants.{Halt, Finish, Change}
 use Rattle.aeth_components.specs.Changes.{event_done, happened, on_interface, switched, with_part}
-use Rattle.aeth_components.specs.Frames.{Frame, InterfaceFrame, frame_of}
+use Rattle.aeth_components.specs.Wirings.{Wiring, InterfaceWiring, wiring_of}
 use Rattle.aeth_components.specs.Switching.{SlotWrite, Writes, WritesAlone, entry_in, entry_of}
 use Rattle.aeth_components.specs.Switching.{slot_write}
 use Rattle.aeth_components.specs.View.{HasSlot}
-use Rattle.aeth_components.proofs.{AloneLemmas.interface-at, AloneLemmas.slice_get-with_part_other}
-use Rattle.aeth_components.proofs.{AloneLemmas.slice_get-with_part_same, PartLemmas.frames-happened}
+use Rattle.aeth_components.proofs.AloneLemmas.{interface-at, slice_get-with_part_other}
+use Rattle.aeth_components.proofs.AloneLemmas.{slice_get-with_part_same}
+use Rattle.aeth_components.proofs.PartLemmas.{wirings-happened}
 
 -- One entry of an interface is written.
 abbrev with_entry : SlotWrite → InterfaceState → InterfaceState
@@ -71,7 +72,7 @@ entry_of-write_other parts write ni slot apart =
 
 -- It changes its own.
 slots-in : (part : Part) (number : NiId) (leaving entering : LinkId) (slots queues : ℕ)
-    → frame_of part ≡ InterfaceFrame number leaving entering slots queues
+    → wiring_of part ≡ InterfaceWiring number leaving entering slots queues
     → (ni : InterfaceState) × (part ≡ Interface ni) × (length ni.entries ≡ slots)
 slots-in (Interface ni) number leaving entering slots queues is = (ni, refl, cc)
 slots-in (Router router) number leaving entering slots queues is = absurd cc
@@ -79,12 +80,12 @@ slots-in (TableRouter router) number leaving entering slots queues is = absurd c
 slots-in (Stage stage) number leaving entering slots queues is = absurd cc
 
 entry_of-write_same : (parts : List Part) (write : SlotWrite)
-    → HasSlot (map frame_of parts) write.ni.0 write.slot
+    → HasSlot (map wiring_of parts) write.ni.0 write.slot
     → entry_of (with_part write.ni.0 (on_interface (with_entry write)) parts) write.ni.0 write.slot
     ≡ write.entry
 entry_of-write_same parts write has =
     let found = interface-at parts write.ni.0
-    (InterfaceFrame has.number has.leaving has.entering has.slots has.queues) has.face in
+    (InterfaceWiring has.number has.leaving has.entering has.slots has.queues) has.face in
     let face = slots-in found.0 has.number has.leaving has.entering has.slots has.queues found.2 in
     let there : slice_get parts write.ni.0 ≡ Some (Interface face.0) =
     found.1 ∙ ap (λ (part : Part). Some part) face.1 in
@@ -124,7 +125,7 @@ entry_of-happened_other parts (Change (SetSlot to number queue)) ni slot none =
 
 -- What it does to the one that it writes.
 written-same : (parts : List Part) (some write : SlotWrite) → Some some ≡ Some write
-    → HasSlot (map frame_of parts) write.ni.0 write.slot
+    → HasSlot (map wiring_of parts) write.ni.0 write.slot
     → entry_of (with_part some.ni.0 (on_interface (with_entry some)) parts) write.ni.0 write.slot
     ≡ write.entry
 written-same parts some write is has =
@@ -133,7 +134,7 @@ written-same parts some write is has =
     ∙ entry_of-write_same parts write has
 
 entry_of-happened_same : (parts : List Part) (event : Event) (write : SlotWrite)
-    → slot_write event ≡ Some write → HasSlot (map frame_of parts) write.ni.0 write.slot
+    → slot_write event ≡ Some write → HasSlot (map wiring_of parts) write.ni.0 write.slot
     → entry_of (happened parts event) write.ni.0 write.slot ≡ write.entry
 entry_of-happened_same parts (Halt end) write is has = absurd cc
 entry_of-happened_same parts (Finish end) write is has = absurd cc
@@ -202,7 +203,7 @@ entry_of-switched_other (event ∷ events) parts ni slot none =
 
 entry_of-switched_same : (events : List Event) (parts : List Part) (i : ℕ) (event : Event)
     (write : SlotWrite) → slice_get events i ≡ Some event → slot_write event ≡ Some write
-    → HasSlot (map frame_of parts) write.ni.0 write.slot
+    → HasSlot (map wiring_of parts) write.ni.0 write.slot
     → ((j : ℕ) (other : Event) → slice_get events j ≡ Some other
     → Writes other write.ni.0 write.slot → j ≡ i)
     → entry_of (switched events parts) write.ni.0 write.slot ≡ write.entry
@@ -216,8 +217,8 @@ entry_of-switched_same (first ∷ events) parts zero event write at is has alone
     ∙ entry_of-happened_same parts event write is has
 entry_of-switched_same (first ∷ events) parts (suc i) event write at is has alone =
     entry_of-switched_same events (happened parts first) i event write at is
-    (subst (λ (frames : List Frame). HasSlot frames write.ni.0 write.slot)
-    (sym (frames-happened first parts)) has)
+    (subst (λ (wirings : List Wiring). HasSlot wirings write.ni.0 write.slot)
+    (sym (wirings-happened first parts)) has)
     (λ j other there writes.
     let place = alone (suc j) other there writes in omega arith)
 

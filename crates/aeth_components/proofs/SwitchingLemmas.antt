@@ -7,15 +7,15 @@ use Rattle.aeth_ni.specs.Interface.{InterfaceState}
 use Rattle.aeth_ni.specs.Queue.{QueueState, finished, stopped, with_route, without_route}
 use Rattle.aeth_router.specs.declared.part.Part.{Part}
 use Rattle.aeth_router.specs.declared.part.Part.TheVariants.{Interface, Router, Stage, TableRouter}
-use Rattle.aeth_components.specs.declared.lane.ChannelEnd.{ChannelEnd}
+use Rattle.aeth_components.specs.declared.channel_state.ChannelEnd.{ChannelEnd}
 use Rattle.aeth_components.specs.declared.event.Event.{Event}
 use Rattle.aeth_components.specs.declared.event.Event.TheVariants.{Halt, Finish, Change}
 use Rattle.aeth_components.specs.Changes.{at_end, happened, on_interface, switched, with_part}
-use Rattle.aeth_components.specs.Frames.{Frame, frame_of}
+use Rattle.aeth_components.specs.Wirings.{Wiring, wiring_of}
 use Rattle.aeth_components.specs.Switching.{SwitchesAlone, Touches, event_end, queue_done}
 use Rattle.aeth_components.specs.View.{HasQueue, queue_of}
 use Rattle.aeth_components.proofs.AloneLemmas.{queue_of-at_end_other, queue_of-at_end_same}
-use Rattle.aeth_components.proofs.PartLemmas.{frames-happened}
+use Rattle.aeth_components.proofs.PartLemmas.{wirings-happened}
 
 -- A change that keeps the queues of an interface changes no queue.
 queue_of-kept : (parts : List Part) (number : ℕ) (change : InterfaceState → InterfaceState)
@@ -61,7 +61,7 @@ queue_of-happened_other parts (Change (SetSlot to slot number)) ni queue none =
 
 -- What it does to the one that it changes.
 same-end : (parts : List Part) (some end : ChannelEnd) (change : QueueState → QueueState)
-    → Some some ≡ Some end → HasQueue (map frame_of parts) end
+    → Some some ≡ Some end → HasQueue (map wiring_of parts) end
     → queue_of (at_end some change parts) end.ni.0 end.queue
     ≡ change (queue_of parts end.ni.0 end.queue)
 same-end parts some end change is has =
@@ -70,7 +70,7 @@ same-end parts some end change is has =
     ∙ queue_of-at_end_same parts end change has
 
 queue_of-happened_same : (parts : List Part) (event : Event) (end : ChannelEnd)
-    → event_end event ≡ Some end → HasQueue (map frame_of parts) end
+    → event_end event ≡ Some end → HasQueue (map wiring_of parts) end
     → queue_of (happened parts event) end.ni.0 end.queue
     ≡ queue_done event (queue_of parts end.ni.0 end.queue)
 queue_of-happened_same parts (Halt some) end is has =
@@ -97,7 +97,7 @@ queue_of-switched_other (event ∷ events) parts ni queue none =
 
 queue_of-switched_same : (events : List Event) (parts : List Part) (i : ℕ) (event : Event)
     (end : ChannelEnd) → slice_get events i ≡ Some event → event_end event ≡ Some end
-    → HasQueue (map frame_of parts) end
+    → HasQueue (map wiring_of parts) end
     → ((j : ℕ) (other : Event) → slice_get events j ≡ Some other
     → Touches other end.ni.0 end.queue → j ≡ i)
     → queue_of (switched events parts) end.ni.0 end.queue
@@ -112,7 +112,8 @@ queue_of-switched_same (first ∷ events) parts zero event end at is has alone =
     ∙ queue_of-happened_same parts event end is has
 queue_of-switched_same (first ∷ events) parts (suc i) event end at is has alone =
     queue_of-switched_same events (happened parts first) i event end at is
-    (subst (λ (frames : List Frame). HasQueue frames end) (sym (frames-happened first parts)) has)
+    (subst (λ (wirings : List Wiring). HasQueue wirings end) (sym (wirings-happened first parts))
+    has)
     (λ j other there touches.
     let place = alone (suc j) other there touches in omega arith)
     ∙ ap (queue_done event) (queue_of-happened_other parts first end.ni.0 end.queue

@@ -13,13 +13,13 @@ use Rattle.aeth_router.proofs.TableLemmas.{get_or-same}
 use Rattle.aeth_router.specs.declared.part.Part.{Part}
 use Rattle.aeth_router.specs.declared.part.Part.TheVariants.{Interface, Router, Stage, TableRouter}
 use Rattle.aeth_components.specs.{Changes.on_interface, Components.part_count, Ends.is_interface}
-use Rattle.aeth_components.specs.{Frames.frame_of, Injecting.AreInjecting, Injecting.HasPlaces}
+use Rattle.aeth_components.specs.{Wirings.wiring_of, Injecting.AreInjecting, Injecting.HasPlaces}
 use Rattle.aeth_components.specs.{Injecting.entries_of, Injecting.entry_at, Injecting.may_send}
 use Rattle.aeth_components.specs.{Injecting.table_at, SlotMarks.marks_at, View.queue_in}
 use Rattle.aeth_components.specs.{declared.injecting.Injecting.Injecting, Making.new_parts}
 use Rattle.aeth_components.specs.{declared.making.RouterKind.TheVariants.ByHeader}
 use Rattle.aeth_components.proofs.CycleLemmas.{views-slice_set}
-use Rattle.aeth_components.proofs.FrameLemmas.{from-map}
+use Rattle.aeth_components.proofs.WiringLemmas.{from-map}
 use Rattle.aeth_components.proofs.InjectingLemmas.{entry-within, entry_at-parts, table_at-parts}
 use Rattle.aeth_components.proofs.MadeLemmas.{Made, IsInterface, IsRouter, IsStage}
 use Rattle.aeth_components.proofs.MadeLemmas.{length-new_parts, part-at}
@@ -33,18 +33,18 @@ entries-changed queue change (TableRouter router) = refl
 entries-changed queue change (Stage stage) = refl
 
 -- Only an interface has one, so another component in place of one keeps the tables.
-entries-other : (part : Part) → is_interface (frame_of part) ≡ false → entries_of part ≡ []
+entries-other : (part : Part) → is_interface (wiring_of part) ≡ false → entries_of part ≡ []
 entries-other (Interface ni) other = absurd (cc other)
 entries-other (Router router) other = refl
 entries-other (TableRouter router) other = refl
 entries-other (Stage stage) other = refl
 
 pub tables-replaced : (parts : List Part) (number : ℕ) (part : Part)
-    → is_interface (frame_of part) ≡ false
-    → slice_get (map frame_of parts) number ≡ Some (frame_of part)
+    → is_interface (wiring_of part) ≡ false
+    → slice_get (map wiring_of parts) number ≡ Some (wiring_of part)
     → map entries_of (slice_set parts number part) ≡ map entries_of parts
 tables-replaced parts number part other at =
-    let found = from-map frame_of parts number (frame_of part) at in
+    let found = from-map wiring_of parts number (wiring_of part) at in
     views-slice_set entries_of parts number part
     (map-at entries_of parts number found.0 found.1
     ∙ ap (λ (table : List (Option ℕ)). Some table)
@@ -52,7 +52,7 @@ tables-replaced parts number part other at =
     ∙ sym (entries-other part other)))
 
 -- It has no queue, and nothing to send.
-may_send-other : (part : Part) → is_interface (frame_of part) ≡ false → (queue : ℕ)
+may_send-other : (part : Part) → is_interface (wiring_of part) ≡ false → (queue : ℕ)
     → queue_in queue (Some part) ≡ empty_queue 0
 may_send-other (Interface ni) other queue = absurd (cc other)
 may_send-other (Router router) other queue = refl
@@ -60,7 +60,7 @@ may_send-other (TableRouter router) other queue = refl
 may_send-other (Stage stage) other queue = refl
 
 pub may_send-replaced : (parts : List Part) (number : ℕ) (part : Part)
-    → is_interface (frame_of part) ≡ false → (other queue : ℕ)
+    → is_interface (wiring_of part) ≡ false → (other queue : ℕ)
     → may_send (slice_set parts number part) other queue ≡ true → may_send parts other queue ≡ true
 may_send-replaced parts number part isnt other queue may = elim (cases_eq other number) [
   | inr apart ↦

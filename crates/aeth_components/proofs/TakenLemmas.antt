@@ -6,10 +6,10 @@ use Rattle.std.proofs.lemmas.{Bool.cases_lt, List.set_past}
 use Rattle.aeth_base.proofs.Lists.{count_by-yes}
 use Rattle.aeth_clocked.proofs.UsedLemmas.{NextUsed, flit-within, used-end}
 use Rattle.aeth_clocked.specs.{Wires.flit_on, Wires.used_from, declared.flit.Flit.Flit}
-use Rattle.aeth_components.specs.{Counting.flits_counted, Turns.flits_on}
+use Rattle.aeth_components.specs.{Counting.flits_counted, FlitsOnWires.flits_on}
 use Rattle.aeth_components.proofs.CountingLemmas.{flits_counted-found, flits_counted-until}
 use Rattle.aeth_components.proofs.CountingLemmas.{flits_counted-whole, length-flits_counted}
-use Rattle.aeth_components.proofs.FrameLemmas.{none-unless}
+use Rattle.aeth_components.proofs.WiringLemmas.{none-unless}
 use Rattle.aeth_components.proofs.FlitLemmas.{flits_on-more}
 use Rattle.aeth_ni.specs.Queue.{capped}
 

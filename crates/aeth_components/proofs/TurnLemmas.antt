@@ -1,86 +1,94 @@
--- Laws of the turns of lanes.
+-- Laws of the turns of channel states.
 use Rattle.std.proofs.Common.{ℕ, ◌≡◌, ◌≤◌, ◌+◌, ◌-◌, refl, sym, ◌∙◌, ap, subst, arith, inl, inr}
 use Rattle.std.proofs.Common.{true, false, map, drop, List, [], ◌∷◌, ◌++◌, length, fold, Option}
 use Rattle.std.proofs.Common.{Some, None, slice_get, take, length-take, append-nil, ap₂}
 use Rattle.std.proofs.lemmas.{Bool.cases_Bool, List.Elements.All-set, Option.get_or_from_slice_get}
 use Rattle.std.proofs.lemmas.{Option.slice_get_within}
 use Rattle.std.specs.{Option.option_map_or, List.All}
-use Rattle.aeth_components.specs.{declared.lane.ChannelEnd.ChannelEnd, declared.lane.Lane.Lane}
-use Rattle.aeth_components.specs.{Busy.TakesNothing, Changes.at_end, Changes.on_interface}
-use Rattle.aeth_components.specs.{Changes.told_at, Changes.told_by, Frames.frame_of, Lanes.IsLane}
-use Rattle.aeth_components.specs.{Lanes.is_open, Phases.Moment, Phases.asked_of, Phases.drawn_out}
-use Rattle.aeth_components.specs.{Phases.handed_on, Phases.left_of, Phases.pulled, Phases.refilled}
-use Rattle.aeth_components.specs.{Phases.turned, Phases.turned_at, Queues.drawn, Queues.draws}
-use Rattle.aeth_components.specs.{Queues.filled, Queues.fits}
-use Rattle.aeth_components.proofs.{FrameLemmas.frame_of-changed, PartLemmas.views-with_part}
+use Rattle.aeth_components.specs.declared.channel_state.ChannelEnd.{ChannelEnd}
+use Rattle.aeth_components.specs.declared.channel_state.ChannelState.{ChannelState}
+use Rattle.aeth_components.specs.Busy.{TakesNothing}
+use Rattle.aeth_components.specs.Changes.{at_end, on_interface, told_at, told_by}
+use Rattle.aeth_components.specs.Wirings.{wiring_of}
+use Rattle.aeth_components.specs.ChannelStates.{IsChannelState, is_open}
+use Rattle.aeth_components.specs.Phases.{Moment, asked_of, dequeued_by, enqueued_by, left_of}
+use Rattle.aeth_components.specs.Phases.{pulled, refilled, turned, turned_at}
+use Rattle.aeth_components.specs.Queues.{dequeued, dequeues, filled, fits}
+use Rattle.aeth_components.proofs.{WiringLemmas.wiring_of-changed, PartLemmas.views-with_part}
 use Rattle.aeth_components.proofs.{PartLemmas.with_part-same, QueueLemmas.changed-same}
 use Rattle.aeth_router.specs.declared.part.Part.{Part}
 use Rattle.aeth_router.specs.declared.part.Part.TheVariants.{Interface, Router, Stage, TableRouter}
 use Rattle.aeth_ni.specs.{Interface.InterfaceState, Interface.changed, Interface.queue_at}
 use Rattle.aeth_ni.specs.{Limits.waiting_words, Queue.QueueState}
 
-module _ (turn : List Part → Lane → List Part × Lane) where
-  -- What each turn keeps of its lane, all turns keep of all lanes.
-  module _ (P : Lane → Type 0)
-      (kept : (parts : List Part) (lane : Lane) → P lane
-      → P (turn parts lane).1) where
-    All-turned_at : (moment : Moment) (number : ℕ) (found : Option Lane)
-        → slice_get moment.lanes number ≡ found → All P moment.lanes
-        → All P (turned_at turn moment number found).lanes
+module _ (turn : List Part → ChannelState → List Part × ChannelState) where
+  -- What each turn keeps of its channel state, all turns keep of all channel states.
+  module _ (P : ChannelState → Type 0)
+      (kept : (parts : List Part) (channel_state : ChannelState) → P channel_state
+      → P (turn parts channel_state).1) where
+    All-turned_at : (moment : Moment) (number : ℕ) (found : Option ChannelState)
+        → slice_get moment.channel_states number ≡ found → All P moment.channel_states
+        → All P (turned_at turn moment number found).channel_states
     All-turned_at moment number None at all = all
-    All-turned_at moment number (Some lane) at all =
-        All-set P moment.lanes number (turn moment.parts lane).1
-        (kept moment.parts lane (subst P
-        (get_or_from_slice_get moment.lanes number lane lane at)
-        (all number lane (slice_get_within moment.lanes number lane at))))
+    All-turned_at moment number (Some channel_state) at all =
+        All-set P moment.channel_states number (turn moment.parts channel_state).1
+        (kept moment.parts channel_state (subst P
+        (get_or_from_slice_get moment.channel_states number channel_state channel_state at)
+        (all number channel_state
+        (slice_get_within moment.channel_states number channel_state at))))
         all
 
-    pub All-turns : (numbers : List ℕ) (moment : Moment) → All P moment.lanes
-        → All P (fold (turned turn) moment numbers).lanes
+    pub All-turns : (numbers : List ℕ) (moment : Moment) → All P moment.channel_states
+        → All P (fold (turned turn) moment numbers).channel_states
     All-turns [] moment all = all
     All-turns (number ∷ numbers) moment all =
         All-turns numbers (turned turn moment number)
-        (All-turned_at moment number (slice_get moment.lanes number) refl all)
+        (All-turned_at moment number (slice_get moment.channel_states number) refl all)
 
   -- What each turn keeps of the components, all turns keep.
-  module _ {X : Type 0} (view : Part → X) (kept : (parts : List Part) (lane : Lane)
-      → map view (turn parts lane).0 ≡ map view parts) where
-    views-turned_at : (moment : Moment) (number : ℕ) (found : Option Lane)
+  module _ {X : Type 0} (view : Part → X) (kept : (parts : List Part) (channel_state : ChannelState)
+      → map view (turn parts channel_state).0 ≡ map view parts) where
+    views-turned_at : (moment : Moment) (number : ℕ) (found : Option ChannelState)
         → map view (turned_at turn moment number found).parts ≡ map view moment.parts
     views-turned_at moment number None = refl
-    views-turned_at moment number (Some lane) = kept moment.parts lane
+    views-turned_at moment number (Some channel_state) = kept moment.parts channel_state
 
     pub views-turns : (numbers : List ℕ) (moment : Moment)
         → map view (fold (turned turn) moment numbers).parts ≡ map view moment.parts
     views-turns [] moment = refl
     views-turns (number ∷ numbers) moment =
         views-turns numbers (turned turn moment number)
-        ∙ views-turned_at moment number (slice_get moment.lanes number)
+        ∙ views-turned_at moment number (slice_get moment.channel_states number)
 
-  -- So it is with frames.
-  pub frames-turns : ((parts : List Part) (lane : Lane)
-      → map frame_of (turn parts lane).0 ≡ map frame_of parts)
+  -- So it is with wirings.
+  pub wirings-turns : ((parts : List Part) (channel_state : ChannelState)
+      → map wiring_of (turn parts channel_state).0 ≡ map wiring_of parts)
       → (numbers : List ℕ) (moment : Moment)
-      → map frame_of (fold (turned turn) moment numbers).parts ≡ map frame_of moment.parts
-  frames-turns = views-turns frame_of
+      → map wiring_of (fold (turned turn) moment numbers).parts ≡ map wiring_of moment.parts
+  wirings-turns = views-turns wiring_of
 
 -- A channel whose turn comes while it is open, or not.
-pub refilled-open : (words : List ℕ) (cycle : ℕ) (parts : List Part) (lane : Lane)
-    → is_open lane cycle ≡ true
-    → refilled words cycle parts lane ≡ handed_on (left_of words lane) parts lane
-refilled-open words cycle parts lane opened = rw opened refl
+pub refilled-open : (words : List ℕ) (cycle : ℕ) (parts : List Part) (channel_state : ChannelState)
+    → is_open channel_state cycle ≡ true
+    → refilled words cycle parts channel_state
+    ≡ enqueued_by (left_of words channel_state) parts channel_state
+refilled-open words cycle parts channel_state opened = rw opened refl
 
-pub pulled-open : (cycle : ℕ) (parts : List Part) (lane : Lane)
-    → is_open lane cycle ≡ true → pulled cycle parts lane ≡ drawn_out parts lane
-pulled-open cycle parts lane opened = rw opened refl
+pub pulled-open : (cycle : ℕ) (parts : List Part) (channel_state : ChannelState)
+    → is_open channel_state cycle ≡ true
+    → pulled cycle parts channel_state ≡ dequeued_by parts channel_state
+pulled-open cycle parts channel_state opened = rw opened refl
 
-pub refilled-closed : (words : List ℕ) (cycle : ℕ) (parts : List Part) (lane : Lane)
-    → is_open lane cycle ≡ false → refilled words cycle parts lane ≡ (parts, lane)
-refilled-closed words cycle parts lane closed = rw closed refl
+pub refilled-closed : (words : List ℕ) (cycle : ℕ) (parts : List Part)
+    (channel_state : ChannelState)
+    → is_open channel_state cycle ≡ false
+    → refilled words cycle parts channel_state ≡ (parts, channel_state)
+refilled-closed words cycle parts channel_state closed = rw closed refl
 
-pub pulled-closed : (cycle : ℕ) (parts : List Part) (lane : Lane)
-    → is_open lane cycle ≡ false → pulled cycle parts lane ≡ (parts, lane)
-pulled-closed cycle parts lane closed = rw closed refl
+pub pulled-closed : (cycle : ℕ) (parts : List Part) (channel_state : ChannelState)
+    → is_open channel_state cycle ≡ false
+    → pulled cycle parts channel_state ≡ (parts, channel_state)
+pulled-closed cycle parts channel_state closed = rw closed refl
 
 on_interface-same : (queue : ℕ) (change : QueueState → QueueState) (part : Part)
     → ((ni : InterfaceState) → part ≡ Interface ni
@@ -127,7 +135,7 @@ pub fits-le : (words : List ℕ) (queue : QueueState) → fits words queue ≤ l
 fits-le words queue =
     let size = length-take (waiting_words - length queue.waiting) words in omega arith
 
--- Where no word fits, none is handed on.
+-- Where no word fits, none is enqueued.
 empty-none : {X : Type 0} (xs : List X) → length xs ≡ 0 → xs ≡ []
 empty-none [] none = refl
 empty-none (x ∷ xs) none = absurd (omega (arith, none))
@@ -139,80 +147,95 @@ filled-none words queue none =
     (empty-none (take (waiting_words - length queue.waiting) words) none)
     ∙ ap (λ (words : List ℕ). record queue { waiting = words }) (append-nil queue.waiting)
 
-pub handed_on-none : (left : List ℕ) (parts : List Part) (lane : Lane)
-    → told_at lane.sender (fits left) parts ≡ 0 → handed_on left parts lane ≡ (parts, lane)
-handed_on-none left parts lane none =
-    let same : lane.handed + told_at lane.sender (fits left) parts ≡ lane.handed =
+pub enqueued_by-none : (left : List ℕ) (parts : List Part) (channel_state : ChannelState)
+    → told_at channel_state.sender (fits left) parts ≡ 0
+    → enqueued_by left parts channel_state ≡ (parts, channel_state)
+enqueued_by-none left parts channel_state none =
+    let same : channel_state.enqueued + told_at channel_state.sender (fits left) parts
+    ≡ channel_state.enqueued =
     omega (arith, none) in
-    ap₂ (λ (parts : List Part) (n : ℕ). (parts, record lane { handed = n }))
-    (at_end-same lane.sender (filled left) parts
-    (λ ni at. filled-none left (queue_at ni.queues lane.sender.queue)
-    (sym (ap (λ (found : Option Part). option_map_or (told_by lane.sender.queue (fits left)) found 0)
+    ap₂ (λ (parts : List Part) (n : ℕ). (parts, record channel_state { enqueued = n }))
+    (at_end-same channel_state.sender (filled left) parts
+    (λ ni at. filled-none left (queue_at ni.queues channel_state.sender.queue)
+    (sym (ap (λ (found : Option Part). option_map_or
+    (told_by channel_state.sender.queue (fits left)) found 0)
     at) ∙ none)))
     same
 
-pub refilled-none : (words : List ℕ) (cycle : ℕ) (parts : List Part) (lane : Lane)
-    → lane.accepted ≤ lane.handed → refilled words cycle parts lane ≡ (parts, lane)
-refilled-none words cycle parts lane none =
-    elim (cases_Bool (is_open lane cycle)) [
+pub refilled-none : (words : List ℕ) (cycle : ℕ) (parts : List Part) (channel_state : ChannelState)
+    → channel_state.accepted ≤ channel_state.enqueued
+    → refilled words cycle parts channel_state ≡ (parts, channel_state)
+refilled-none words cycle parts channel_state none =
+    elim (cases_Bool (is_open channel_state cycle)) [
       | inl opened ↦
-          let nothing : lane.first + lane.accepted - (lane.first + lane.handed) ≡ 0 = omega arith in
-          let left = left_of words lane in
-          let few = length-take (lane.first + lane.accepted - (lane.first + lane.handed))
-          (drop (lane.first + lane.handed) words) in
-          let told = told_at-le lane.sender (length left) (fits left) (fits-le left) parts in
-          refilled-open words cycle parts lane opened
-          ∙ handed_on-none left parts lane (omega (arith, nothing, few, told))
-      | inr closed ↦ refilled-closed words cycle parts lane closed
+          let nothing : channel_state.first + channel_state.accepted
+          - (channel_state.first + channel_state.enqueued) ≡ 0 = omega arith in
+          let left = left_of words channel_state in
+          let few = length-take
+          (channel_state.first + channel_state.accepted
+          - (channel_state.first + channel_state.enqueued))
+          (drop (channel_state.first + channel_state.enqueued) words) in
+          let told = told_at-le channel_state.sender (length left) (fits left) (fits-le left) parts
+          in
+          refilled-open words cycle parts channel_state opened
+          ∙ enqueued_by-none left parts channel_state (omega (arith, nothing, few, told))
+      | inr closed ↦ refilled-closed words cycle parts channel_state closed
     ]
 
 -- Where no word is there to be taken, none is.
-pub drawn_out-none : (parts : List Part) (lane : Lane) → asked_of lane ≡ 0
-    → drawn_out parts lane ≡ (parts, lane)
-drawn_out-none parts lane none =
-    let told = told_at-le lane.receiver 0 (draws (asked_of lane))
+pub dequeued_by-none : (parts : List Part) (channel_state : ChannelState)
+    → asked_of channel_state ≡ 0
+    → dequeued_by parts channel_state ≡ (parts, channel_state)
+dequeued_by-none parts channel_state none =
+    let told = told_at-le channel_state.receiver 0 (dequeues (asked_of channel_state))
     (λ state. rw none (omega arith)) parts in
-    let same : lane.taken + told_at lane.receiver (draws (asked_of lane)) parts ≡ lane.taken =
+    let same : channel_state.taken
+    + told_at channel_state.receiver (dequeues (asked_of channel_state)) parts
+    ≡ channel_state.taken =
     omega arith in
-    ap₂ (λ (parts : List Part) (n : ℕ). (parts, record lane { taken = n }))
-    (at_end-same lane.receiver (drawn (asked_of lane)) parts (λ ni at. rw none refl)) same
+    ap₂ (λ (parts : List Part) (n : ℕ). (parts, record channel_state { taken = n }))
+    (at_end-same channel_state.receiver (dequeued (asked_of channel_state)) parts
+    (λ ni at. rw none refl)) same
 
-asked_of-none : (lane : Lane) → TakesNothing lane → asked_of lane ≡ 0
-asked_of-none lane none = elim none [
+asked_of-none : (channel_state : ChannelState) → TakesNothing channel_state
+    → asked_of channel_state ≡ 0
+asked_of-none channel_state none = elim none [
   | inl taken ↦ omega arith
   | inr never ↦ omega arith
 ]
 
-pub pulled-none : (cycle : ℕ) (parts : List Part) (lane : Lane) → TakesNothing lane
-    → pulled cycle parts lane ≡ (parts, lane)
-pulled-none cycle parts lane none =
-    elim (cases_Bool (is_open lane cycle)) [
+pub pulled-none : (cycle : ℕ) (parts : List Part) (channel_state : ChannelState)
+    → TakesNothing channel_state
+    → pulled cycle parts channel_state ≡ (parts, channel_state)
+pulled-none cycle parts channel_state none =
+    elim (cases_Bool (is_open channel_state cycle)) [
       | inl opened ↦
-          pulled-open cycle parts lane opened
-          ∙ drawn_out-none parts lane (asked_of-none lane none)
-      | inr closed ↦ pulled-closed cycle parts lane closed
+          pulled-open cycle parts channel_state opened
+          ∙ dequeued_by-none parts channel_state (asked_of-none channel_state none)
+      | inr closed ↦ pulled-closed cycle parts channel_state closed
     ]
 
 -- Refilling keeps which receivers take nothing.
-pub TakesNothing-refilled : (words : List ℕ) (cycle : ℕ) (parts : List Part) (lane : Lane)
-    → TakesNothing lane → TakesNothing (refilled words cycle parts lane).1
-TakesNothing-refilled words cycle parts lane none =
-    elim (cases_Bool (is_open lane cycle)) [
+pub TakesNothing-refilled : (words : List ℕ) (cycle : ℕ) (parts : List Part)
+    (channel_state : ChannelState)
+    → TakesNothing channel_state → TakesNothing (refilled words cycle parts channel_state).1
+TakesNothing-refilled words cycle parts channel_state none =
+    elim (cases_Bool (is_open channel_state cycle)) [
       | inl opened ↦
-          subst (λ (done : List Part × Lane). TakesNothing done.1)
-          (sym (refilled-open words cycle parts lane opened)) none
+          subst (λ (done : List Part × ChannelState). TakesNothing done.1)
+          (sym (refilled-open words cycle parts channel_state opened)) none
       | inr closed ↦
-          subst (λ (done : List Part × Lane). TakesNothing done.1)
-          (sym (refilled-closed words cycle parts lane closed)) none
+          subst (λ (done : List Part × ChannelState). TakesNothing done.1)
+          (sym (refilled-closed words cycle parts channel_state closed)) none
     ]
 
--- A turn keeps the frames.
-frame_of-on_interface : (queue : ℕ) (change : QueueState → QueueState) (part : Part)
-    → frame_of (on_interface (changed queue change) part) ≡ frame_of part
-frame_of-on_interface queue change (Interface ni) = frame_of-changed queue change ni
-frame_of-on_interface queue change (Router router) = refl
-frame_of-on_interface queue change (TableRouter router) = refl
-frame_of-on_interface queue change (Stage stage) = refl
+-- A turn keeps the wirings.
+wiring_of-on_interface : (queue : ℕ) (change : QueueState → QueueState) (part : Part)
+    → wiring_of (on_interface (changed queue change) part) ≡ wiring_of part
+wiring_of-on_interface queue change (Interface ni) = wiring_of-changed queue change ni
+wiring_of-on_interface queue change (Router router) = refl
+wiring_of-on_interface queue change (TableRouter router) = refl
+wiring_of-on_interface queue change (Stage stage) = refl
 
 -- What changes of queues keep of the components, refilling and taking keep.
 module _ {X : Type 0} (view : Part → X) (kept : (queue : ℕ) (change : QueueState → QueueState)
@@ -223,63 +246,76 @@ module _ {X : Type 0} (view : Part → X) (kept : (queue : ℕ) (change : QueueS
       views-with_part view end.ni.0 (on_interface (changed end.queue change))
       (kept end.queue change) parts
 
-  pub views-refilled : (words : List ℕ) (cycle : ℕ) (parts : List Part) (lane : Lane)
-      → map view (refilled words cycle parts lane).0 ≡ map view parts
-  views-refilled words cycle parts lane =
-      elim (cases_Bool (is_open lane cycle)) [
-        | inl opened ↦ rw opened (views-at_end lane.sender (filled (left_of words lane)) parts)
+  pub views-refilled : (words : List ℕ) (cycle : ℕ) (parts : List Part)
+      (channel_state : ChannelState)
+      → map view (refilled words cycle parts channel_state).0 ≡ map view parts
+  views-refilled words cycle parts channel_state =
+      elim (cases_Bool (is_open channel_state cycle)) [
+        | inl opened ↦
+            rw opened (views-at_end channel_state.sender (filled (left_of words channel_state))
+            parts)
         | inr closed ↦ rw closed refl
       ]
 
-  pub views-pulled : (cycle : ℕ) (parts : List Part) (lane : Lane)
-      → map view (pulled cycle parts lane).0 ≡ map view parts
-  views-pulled cycle parts lane =
-      elim (cases_Bool (is_open lane cycle)) [
-        | inl opened ↦ rw opened (views-at_end lane.receiver (drawn (asked_of lane)) parts)
+  pub views-pulled : (cycle : ℕ) (parts : List Part) (channel_state : ChannelState)
+      → map view (pulled cycle parts channel_state).0 ≡ map view parts
+  views-pulled cycle parts channel_state =
+      elim (cases_Bool (is_open channel_state cycle)) [
+        | inl opened ↦
+            rw opened (views-at_end channel_state.receiver (dequeued (asked_of channel_state))
+            parts)
         | inr closed ↦ rw closed refl
       ]
 
--- So it is with frames.
-pub frames-refilled : (words : List ℕ) (cycle : ℕ) (parts : List Part) (lane : Lane)
-    → map frame_of (refilled words cycle parts lane).0 ≡ map frame_of parts
-frames-refilled = views-refilled frame_of frame_of-on_interface
+-- So it is with wirings.
+pub wirings-refilled : (words : List ℕ) (cycle : ℕ) (parts : List Part)
+    (channel_state : ChannelState)
+    → map wiring_of (refilled words cycle parts channel_state).0 ≡ map wiring_of parts
+wirings-refilled = views-refilled wiring_of wiring_of-on_interface
 
-pub frames-pulled : (cycle : ℕ) (parts : List Part) (lane : Lane)
-    → map frame_of (pulled cycle parts lane).0 ≡ map frame_of parts
-frames-pulled = views-pulled frame_of frame_of-on_interface
+pub wirings-pulled : (cycle : ℕ) (parts : List Part) (channel_state : ChannelState)
+    → map wiring_of (pulled cycle parts channel_state).0 ≡ map wiring_of parts
+wirings-pulled = views-pulled wiring_of wiring_of-on_interface
 
 -- A turn keeps what holds of a channel.
-pub IsLane-refilled : (words : List ℕ) (cycle count : ℕ) (parts : List Part) (lane : Lane)
-    → IsLane (length words) count lane
-    → IsLane (length words) count (refilled words cycle parts lane).1
-IsLane-refilled words cycle count parts lane sound =
-    elim (cases_Bool (is_open lane cycle)) [
+pub IsChannelState-refilled : (words : List ℕ) (cycle count : ℕ) (parts : List Part)
+    (channel_state : ChannelState)
+    → IsChannelState (length words) count channel_state
+    → IsChannelState (length words) count (refilled words cycle parts channel_state).1
+IsChannelState-refilled words cycle count parts channel_state sound =
+    elim (cases_Bool (is_open channel_state cycle)) [
       | inl opened ↦ rw opened (
-          let left = left_of words lane in
-          let few : length left ≤ lane.accepted - lane.handed =
-          let first = length-take (lane.first + lane.accepted - (lane.first + lane.handed))
-          (drop (lane.first + lane.handed) words) in
+          let left = left_of words channel_state in
+          let few : length left ≤ channel_state.accepted - channel_state.enqueued =
+          let first = length-take
+          (channel_state.first + channel_state.accepted
+          - (channel_state.first + channel_state.enqueued))
+          (drop (channel_state.first + channel_state.enqueued) words) in
           omega arith in
-          let told = told_at-le lane.sender (length left) (fits left) (fits-le left) parts in
-          let handed = sound.handed in
+          let told = told_at-le channel_state.sender (length left) (fits left) (fits-le left) parts
+          in
+          let enqueued = sound.enqueued in
           let landed = sound.landed in
           record {
             sender = sound.sender;
             receiver = sound.receiver;
             taken = sound.taken;
             landed = omega arith;
-            handed = omega arith;
+            enqueued = omega arith;
             within = sound.within;
           })
       | inr closed ↦ rw closed sound
     ]
 
-pub IsLane-pulled : (words cycle count : ℕ) (parts : List Part) (lane : Lane)
-    → IsLane words count lane → IsLane words count (pulled cycle parts lane).1
-IsLane-pulled words cycle count parts lane sound =
-    elim (cases_Bool (is_open lane cycle)) [
+pub IsChannelState-pulled : (words cycle count : ℕ) (parts : List Part)
+    (channel_state : ChannelState)
+    → IsChannelState words count channel_state
+    → IsChannelState words count (pulled cycle parts channel_state).1
+IsChannelState-pulled words cycle count parts channel_state sound =
+    elim (cases_Bool (is_open channel_state cycle)) [
       | inl opened ↦ rw opened (
-          let told = told_at-le lane.receiver (asked_of lane) (draws (asked_of lane))
+          let told = told_at-le channel_state.receiver (asked_of channel_state)
+          (dequeues (asked_of channel_state))
           (λ state. omega arith) parts in
           let taken = sound.taken in
           record {
@@ -287,7 +323,7 @@ IsLane-pulled words cycle count parts lane sound =
             receiver = sound.receiver;
             taken = omega arith;
             landed = sound.landed;
-            handed = sound.handed;
+            enqueued = sound.enqueued;
             within = sound.within;
           })
       | inr closed ↦ rw closed sound

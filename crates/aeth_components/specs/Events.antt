@@ -8,7 +8,7 @@ use Rattle.aeth_ni.specs.Queue.{IsRoute}
 use Rattle.aeth_ni.specs.Writes.{addressee}
 use Rattle.aeth_components.specs.declared.event.Event.{Event}
 use Rattle.aeth_components.specs.declared.event.Event.TheVariants.{Halt, Finish, Change}
-use Rattle.aeth_components.specs.Frames.{Frame, InterfaceFrame, RouterFrame, StageFrame}
+use Rattle.aeth_components.specs.Wirings.{Wiring, InterfaceWiring, RouterWiring, StageWiring}
 
 -- The number of the component that an event is for.
 abbrev pub event_part : Event → ℕ
@@ -27,19 +27,19 @@ IsWithin (SetSlot ni slot queue) slots = (slot < slots) × (queue < queues_of_in
 
 -- What a write needs of the component that it is for, where this is an interface: its number, and
 -- the slot.
-abbrev pub Addresses : Write → Frame → Type 0
-Addresses write (InterfaceFrame number leaving entering slots queues) =
+abbrev pub Addresses : Write → Wiring → Type 0
+Addresses write (InterfaceWiring number leaving entering slots queues) =
     (addressee write ≡ number) × IsWithin write slots
-Addresses write (RouterFrame incoming outgoing) = Unit
-Addresses write (StageFrame input output) = Unit
+Addresses write (RouterWiring incoming outgoing) = Unit
+Addresses write (StageWiring input output) = Unit
 
 -- What an event needs of it.
-abbrev pub Suits : Event → Frame → Type 0
-Suits (Halt end) frame = end.queue < queues_of_interface
-Suits (Finish end) frame = end.queue < queues_of_interface
-Suits (Change write) frame = Addresses write frame
+abbrev pub Suits : Event → Wiring → Type 0
+Suits (Halt end) wiring = end.queue < queues_of_interface
+Suits (Finish end) wiring = end.queue < queues_of_interface
+Suits (Change write) wiring = Addresses write wiring
 
 -- The event's component is there, and suits it.
-pub record IsDoable (frames : List Frame) (event : Event) : Type 0 where
-  pub part : event_part event < length frames
-  pub suits : IfSome (slice_get frames (event_part event)) (Suits event)
+pub record IsDoable (wirings : List Wiring) (event : Event) : Type 0 where
+  pub part : event_part event < length wirings
+  pub suits : IfSome (slice_get wirings (event_part event)) (Suits event)

@@ -6,7 +6,7 @@
 -- This project's own.
 use Rattle.std.proofs.Common.{◌≡◌, ◌≤◌, ◌<◌, ℕ, List, Some, slice_get, true}
 use Rattle.aeth_router.specs.declared.part.Part.{Part}
-use Rattle.aeth_components.specs.Turns.{sends_own}
+use Rattle.aeth_components.specs.FlitsOnWires.{sends_own}
 
 -- The first cycle from one on, and below another, in which something holds; the other where it holds
 -- in none.

@@ -8,11 +8,11 @@ pub mod Ends
 pub mod Entering
 pub mod Events
 pub mod First
-pub mod Frames
-pub mod Handing
+pub mod Wirings
+pub mod Enqueuing
 pub mod Homes
 pub mod Injecting
-pub mod Lanes
+pub mod ChannelStates
 pub mod Laws
 pub mod Making
 pub mod Passing
@@ -24,5 +24,5 @@ pub mod Seen
 pub mod Sending
 pub mod SlotMarks
 pub mod Switching
-pub mod Turns
+pub mod FlitsOnWires
 pub mod View

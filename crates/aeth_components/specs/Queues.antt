@@ -1,7 +1,7 @@
 -- What is done at one queue within a cycle.
 --
---   fits, filled                the words that a source queue is handed
---   draws, drawn                the words that are taken out of a receive queue
+--   fits, filled                the words that a source queue takes up
+--   dequeues, dequeued          the words that are taken out of a receive queue
 --   words_for, brought_by       the words that the last flit brought to a queue
 --
 -- This project's own.
@@ -23,13 +23,13 @@ abbrev pub filled : List ℕ → QueueState → QueueState
 filled words queue = record queue { waiting = queue.waiting ++ fitting queue words }
 
 -- Words are taken so many times.
-abbrev pub drawn : ℕ → QueueState → QueueState
-drawn zero queue = queue
-drawn (suc times) queue = word_taken (drawn times queue)
+abbrev pub dequeued : ℕ → QueueState → QueueState
+dequeued zero queue = queue
+dequeued (suc times) queue = word_taken (dequeued times queue)
 
 -- How many words that are.
-abbrev pub draws : ℕ → QueueState → ℕ
-draws times queue = min times (length queue.received)
+abbrev pub dequeues : ℕ → QueueState → ℕ
+dequeues times queue = min times (length queue.received)
 
 -- The words of the last flit that are for this queue.
 abbrev pub words_for : ℕ → Option (ℕ × ℕ) → ℕ

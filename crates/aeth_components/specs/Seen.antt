@@ -1,9 +1,10 @@
 -- What components latched last is on the wires: between cycles routers and stages hold what their incoming wires
 -- have, and interfaces tell of it. So it is seen there, and not kept a second time.
 --
--- A cycle walks once over the wires with a flit. Interfaces latch theirs. Routers and stages pass theirs on to a second
--- set of wires, and then the two sets change places. So the work of a cycle is in the number of its flits. The order of
--- components that a caller hands over isn't followed: each gives the same.
+-- A cycle walks once over the wires with a flit. Interfaces latch theirs. Routers and stages pass
+-- theirs on to a second set of wires, and then the two sets change places. So the work of a cycle
+-- is in the number of its flits. The order of components that a caller gives over isn't followed:
+-- each gives the same.
 --
 --   seen, all_seen      a component, and all, with what the wires have
 --   interfaces_driven, interfaces_latched      the components once the interfaces among them have driven, or latched

@@ -7,7 +7,7 @@
 use Rattle.std.proofs.Common.{◌≡◌, ℕ, List, Option, Some, false, length, slice_get, true}
 use Rattle.aeth_clocked.specs.{Wires.flit_on, declared.flit.Flit.Flit}
 use Rattle.aeth_router.specs.{Part.emit_of, Part.outputs_of, declared.part.Part.Part}
-use Rattle.aeth_components.specs.Turns.{sends_own}
+use Rattle.aeth_components.specs.FlitsOnWires.{sends_own}
 
 -- The component of a number sends something of its own in a cycle.
 abbrev pub IsSending : ℕ → List Part → ℕ → Type 0

@@ -14,11 +14,11 @@ use Rattle.aeth_ni.specs.declared.write.Write.TheVariants.{ClearSlot, ClearRoute
 use Rattle.aeth_ni.specs.Queue.{QueueState, finished, stopped, with_route, without_route}
 use Rattle.aeth_router.specs.declared.part.Part.{Part}
 use Rattle.aeth_router.specs.declared.part.Part.TheVariants.{Interface, Router, Stage, TableRouter}
-use Rattle.aeth_components.specs.{declared.lane.ChannelEnd.ChannelEnd, declared.event.Event.Event}
-use Rattle.aeth_components.specs.{declared.event.Event.TheVariants.Halt}
+use Rattle.aeth_components.specs.{declared.channel_state.ChannelEnd.ChannelEnd}
+use Rattle.aeth_components.specs.{declared.event.Event.Event, declared.event.Event.TheVariants.Halt}
 use Rattle.aeth_components.specs.{declared.event.Event.TheVariants.Finish}
 use Rattle.aeth_components.specs.{declared.event.Event.TheVariants.Change, Changes.switched}
-use Rattle.aeth_components.specs.{Frames.frame_of, View.HasQueue, View.HasSlot, View.queue_of}
+use Rattle.aeth_components.specs.{Wirings.wiring_of, View.HasQueue, View.HasSlot, View.queue_of}
 
 -- The queue that an event changes, if it changes one.
 abbrev pub write_end : Write → Option ChannelEnd
@@ -58,7 +58,7 @@ pub record SwitchesAlone (events : List Event) (parts : List Part) : Type 0 wher
       → ((i : ℕ) (event : Event) → slice_get events i ≡ Some event → Touches event ni queue → ⊥)
       → queue_of (switched events parts) ni queue ≡ queue_of parts ni queue
   pub own : (i : ℕ) (event : Event) (end : ChannelEnd) → slice_get events i ≡ Some event
-      → event_end event ≡ Some end → HasQueue (map frame_of parts) end
+      → event_end event ≡ Some end → HasQueue (map wiring_of parts) end
       → ((j : ℕ) (other : Event) → slice_get events j ≡ Some other
       → Touches other end.ni.0 end.queue → j ≡ i)
       → queue_of (switched events parts) end.ni.0 end.queue
@@ -105,7 +105,7 @@ pub record WritesAlone (events : List Event) (parts : List Part) : Type 0 where
       → ((i : ℕ) (event : Event) → slice_get events i ≡ Some event → Writes event ni slot → ⊥)
       → entry_of (switched events parts) ni slot ≡ entry_of parts ni slot
   pub own : (i : ℕ) (event : Event) (write : SlotWrite) → slice_get events i ≡ Some event
-      → slot_write event ≡ Some write → HasSlot (map frame_of parts) write.ni.0 write.slot
+      → slot_write event ≡ Some write → HasSlot (map wiring_of parts) write.ni.0 write.slot
       → ((j : ℕ) (other : Event) → slice_get events j ≡ Some other
       → Writes other write.ni.0 write.slot → j ≡ i)
       → entry_of (switched events parts) write.ni.0 write.slot ≡ write.entry

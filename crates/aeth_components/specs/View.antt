@@ -4,8 +4,8 @@ use Rattle.std.proofs.Common.{◌≡◌, ◌<◌, ℕ, List, Option, Some, None,
 use Rattle.aeth_base.specs.declared.ids.{LinkId.LinkId, NiId.NiId}
 use Rattle.aeth_router.specs.declared.part.Part.{Part}
 use Rattle.aeth_router.specs.declared.part.Part.TheVariants.{Interface, Router, Stage, TableRouter}
-use Rattle.aeth_components.specs.declared.lane.ChannelEnd.{ChannelEnd}
-use Rattle.aeth_components.specs.Frames.{Frame, InterfaceFrame}
+use Rattle.aeth_components.specs.declared.channel_state.ChannelEnd.{ChannelEnd}
+use Rattle.aeth_components.specs.Wirings.{Wiring, InterfaceWiring}
 use Rattle.aeth_ni.specs.{Interface.queue_at, Queue.QueueState, Queue.empty_queue}
 
 -- One queue of a component; an empty one where there is none.
@@ -20,22 +20,23 @@ queue_in queue (Some (Stage stage)) = empty_queue 0
 abbrev pub queue_of : List Part → ℕ → ℕ → QueueState
 queue_of parts ni queue = queue_in queue (slice_get parts ni)
 
--- An end is a queue of an interface with such a frame.
-pub record HasQueue (frames : List Frame) (end : ChannelEnd) : Type 0 where
+-- An end is a queue of an interface with such a wiring.
+pub record HasQueue (wirings : List Wiring) (end : ChannelEnd) : Type 0 where
   pub number : NiId
   pub leaving : LinkId
   pub entering : LinkId
   pub slots : ℕ
   pub queues : ℕ
-  pub face : slice_get frames end.ni.0 ≡ Some (InterfaceFrame number leaving entering slots queues)
+  pub face : slice_get wirings end.ni.0
+      ≡ Some (InterfaceWiring number leaving entering slots queues)
   pub within : end.queue < queues
 
--- A slot of an interface with such a frame.
-pub record HasSlot (frames : List Frame) (ni slot : ℕ) : Type 0 where
+-- A slot of an interface with such a wiring.
+pub record HasSlot (wirings : List Wiring) (ni slot : ℕ) : Type 0 where
   pub number : NiId
   pub leaving : LinkId
   pub entering : LinkId
   pub slots : ℕ
   pub queues : ℕ
-  pub face : slice_get frames ni ≡ Some (InterfaceFrame number leaving entering slots queues)
+  pub face : slice_get wirings ni ≡ Some (InterfaceWiring number leaving entering slots queues)
   pub within : slot < slots

@@ -9,34 +9,33 @@ ghost use Rattle.aeth_router.specs.Onward.{Nothing};
 ghost use Rattle.aeth_components.specs.Busy.{TakesNothing};
 ghost use Rattle.aeth_components.specs.Changes.{switched};
 ghost use Rattle.aeth_components.specs.Channels.{AreStill};
-ghost use Rattle.aeth_components.specs.Components.{Cycle, first_components};
-ghost use Rattle.aeth_components.specs.Components.{frames_of, part_count, ready_of, wires_driven};
+ghost use Rattle.aeth_components.specs.Components.{ComponentsCycle, first_components};
+ghost use Rattle.aeth_components.specs.Components.{part_count, wirings_of};
 ghost use Rattle.aeth_components.specs.Ends.{is_interface};
 ghost use Rattle.aeth_components.specs.Entering.{TakesRows, with_rows};
 ghost use Rattle.aeth_components.specs.Events.{IsDoable};
 ghost use Rattle.aeth_components.specs.First.{HasSender, IsFirst};
-ghost use Rattle.aeth_components.specs.Frames.{IsWired, frame_of};
+ghost use Rattle.aeth_components.specs.Wirings.{IsWired, wiring_of};
 ghost use Rattle.aeth_components.specs.Injecting.{AreInjecting};
-ghost use Rattle.aeth_components.specs.Lanes.{IsLane, with_lane};
-ghost use Rattle.aeth_components.specs.Handing.{AreHanding};
+ghost use Rattle.aeth_components.specs.ChannelStates.{IsChannelState, with_channel_state};
+ghost use Rattle.aeth_components.specs.Enqueuing.{AreEnqueuing};
 ghost use Rattle.aeth_components.specs.Passing.{way_of};
 ghost use Rattle.aeth_components.specs.Ready.{AreReady};
 ghost use Rattle.aeth_components.specs.Replacing.{emptied, without_held};
 ghost use Rattle.aeth_components.specs.Seen.{all_seen, taken_of};
-ghost use Rattle.aeth_components.specs.Turns.{flits_on};
+ghost use Rattle.aeth_components.specs.FlitsOnWires.{flits_on};
 
 use crate::beside::Beside;
+use crate::channel_state::ChannelState;
 use crate::channels::Channels;
 use crate::counts::Counts;
-use crate::driving::drive;
+use crate::cycle::run;
+use crate::enqueuing::Enqueuing;
 use crate::event::Event;
 use crate::forwarding::note_forwarding;
-use crate::handing::Handing;
 use crate::landing::land;
-use crate::lane::Lane;
 use crate::making::{RouterKind, parts_of};
 use crate::parts::enter_all;
-use crate::phases::switch;
 use crate::replacing::{lose, pass_on, set};
 use crate::sending::next_among;
 use crate::turns::Turns;
@@ -57,7 +56,7 @@ pub struct Components {
     wires: Wires,
     turns: Turns,
     channels: Channels,
-    handing: Handing,
+    enqueuing: Enqueuing,
     counts: Counts,
 }
 
@@ -65,9 +64,9 @@ impl Model for Components {
     ghost use Rattle.std.specs.Prelude.{map};
     ghost use Rattle.aeth_components.specs.Components.{ComponentsState, IsComponents};
     ghost use Rattle.aeth_components.specs.Components.{components_of};
-    ghost use Rattle.aeth_components.specs.Frames.{frame_of};
+    ghost use Rattle.aeth_components.specs.Wirings.{wiring_of};
     ghost use Rattle.aeth_components.specs.Injecting.{AreInjecting};
-    ghost use Rattle.aeth_components.specs.Handing.{AreHanding};
+    ghost use Rattle.aeth_components.specs.Enqueuing.{AreEnqueuing};
     ghost use Rattle.aeth_components.specs.Passing.{way_of};
     ghost use Rattle.aeth_components.specs.Ready.{AreReady};
     ghost use Rattle.aeth_components.specs.Seen.{all_seen};
@@ -76,21 +75,22 @@ impl Model for Components {
 
     // What components latched last is on the wires.
     ghost view = { λ all. components_of (all_seen all.wires all.parts.items) all.wires
-        all.channels.lanes all.channels.words all.counts.landings.items all.counts.flits.items };
+        all.channels.channel_states all.channels.words all.counts.landings.items
+        all.counts.flits.items };
 
     ghost invariant = { λ all. IsComponents (components_of all.parts.items all.wires
-        all.channels.lanes all.channels.words all.counts.landings.items all.counts.flits.items)
-        × AreReady (map frame_of all.parts.items) (map way_of all.parts.items) all.wires all.turns
+        all.channels.channel_states all.channels.words all.counts.landings.items
+        all.counts.flits.items)
+        × AreReady (map wiring_of all.parts.items) (map way_of all.parts.items) all.wires all.turns
         × AreInjecting all.parts.items all.turns.injecting
-        × AreHanding all.parts.items all.channels.lanes all.handing };
+        × AreEnqueuing all.parts.items all.channels.channel_states all.enqueuing };
 }
 
 impl Components {
-    /// The components of a chip, none of which holds anything, with empty wires. Its routers are of a
-    /// kind, and where they have tables these are empty. `rooms` has for
-    /// each of the 32 queues of each interface the words that its receive queue has room for.
-    /// `lanes` has for each channel its first session, and `words` the words of all sessions of the
-    /// run.
+    /// The components of a chip, none of which holds anything, with empty wires. Its routers are of
+    /// a kind, and where they have tables these are empty. `rooms` has for each of the 32 queues of
+    /// each interface the words that its receive queue has room for. `channel_states` has for each
+    /// channel its first session, and `words` the words of all sessions of the run.
     ///
     /// Later calls take no memory.
     pub fn new(
@@ -98,15 +98,16 @@ impl Components {
         chip: &Chip,
         kind: RouterKind,
         rooms: &[u32],
-        lanes: Vec<Lane>,
+        channel_states: Vec<ChannelState>,
         words: Vec<u32>,
     ) -> Result<Components, NoMemory>
         requires rooms { length rooms.now ≡ queues_of_interface * length chip.now.nis }
-        requires lanes { All (IsLane (length words.items) (part_count chip.now)) lanes.items }
+        requires channel_states { All (IsChannelState (length words.items) (part_count chip.now))
+            channel_states.items }
         ensures { IfOk result (λ made. made
-            ≡ first_components chip.now kind rooms.now lanes.items words.items) }
+            ≡ first_components chip.now kind rooms.now channel_states.items words.items) }
     {
-        let channels = Channels::new(alloc, lanes, words)?;
+        let channels = Channels::new(alloc, channel_states, words)?;
         Components::with(alloc, chip, kind, rooms, channels)
     }
 
@@ -132,10 +133,10 @@ impl Components {
     }
 
     /// The channels, each with its session of the time.
-    pub fn lanes(&self) -> &[Lane]
-        ensures { result.now ≡ self.now.lanes }
+    pub fn channel_states(&self) -> &[ChannelState]
+        ensures { result.now ≡ self.now.channel_states }
     {
-        self.channels.lanes()
+        self.channels.channel_states()
     }
 
     /// For each word that has landed the cycle in which it did, and 0 for each other.
@@ -165,47 +166,56 @@ impl Components {
     /// no words wait, or their receivers take none. Its number is that of all channels where there is
     /// none.
     pub fn next_taking(&self, from: usize) -> usize
-        requires { from ≤ length self.now.lanes }
+        requires { from ≤ length self.now.channel_states }
         ensures from { from ≤ result }
-        ensures end { result ≤ length self.now.lanes }
-        ensures still { AreStill TakesNothing self.now.lanes from result }
+        ensures end { result ≤ length self.now.channel_states }
+        ensures still { AreStill TakesNothing self.now.channel_states from result }
     {
         self.channels.next_taking(from)
     }
 
     /// A channel has another session from now on.
-    pub fn load(&mut self, channel: usize, lane: Lane)
-        requires channel { channel < length self.old.lanes }
-        requires lane { IsLane (length self.old.words) (length self.old.parts) lane }
-        ensures { self.new ≡ record self.old { lanes = slice_set self.old.lanes channel lane } }
+    pub fn load(&mut self, channel: usize, channel_state: ChannelState)
+        requires channel { channel < length self.old.channel_states }
+        requires channel_state { IsChannelState (length self.old.words) (length self.old.parts)
+            channel_state }
+        ensures { self.new
+            ≡ record self.old {
+              channel_states =
+                  slice_set self.old.channel_states channel channel_state;
+            } }
     {
-        self.channels.load(channel, lane);
-        self.handing.marks.mark(channel);
+        self.channels.load(channel, channel_state);
+        self.enqueuing.marks.mark(channel);
     }
 
     /// So many words of a channel's session are accepted.
     pub fn accept(&mut self, channel: usize, accepted: u32)
-        requires channel { channel < length self.old.lanes }
-        requires handed { IfSome (slice_get self.old.lanes channel)
-            (λ now. (now.handed ≤ accepted) × (now.first + accepted ≤ length self.old.words)) }
+        requires channel { channel < length self.old.channel_states }
+        requires enqueued { IfSome (slice_get self.old.channel_states channel)
+            (λ now. (now.enqueued ≤ accepted) × (now.first + accepted ≤ length self.old.words)) }
         ensures { self.new ≡ record self.old {
-          lanes = with_lane channel (λ now. record now { accepted = accepted }) self.old.lanes;
+          channel_states =
+              with_channel_state channel (λ now. record now { accepted = accepted })
+              self.old.channel_states;
         } }
     {
         self.channels.accept(channel, accepted);
-        self.handing.marks.mark(channel);
+        self.enqueuing.marks.mark(channel);
     }
 
     /// A channel's receiver takes so many words in a cycle, at most.
     pub fn set_pull(&mut self, channel: usize, pull: u32)
-        requires { channel < length self.old.lanes }
+        requires { channel < length self.old.channel_states }
         ensures { self.new ≡ record self.old {
-          lanes = with_lane channel (λ now. record now { pull = pull }) self.old.lanes;
+          channel_states =
+              with_channel_state channel (λ now. record now { pull = pull })
+              self.old.channel_states;
         } }
     {
-        let mut lane = self.channels.lanes()[channel];
-        lane.pull = pull;
-        self.load(channel, lane);
+        let mut channel_state = self.channels.channel_states()[channel];
+        channel_state.pull = pull;
+        self.load(channel, channel_state);
     }
 
     /// These rows are from now on the tables of the routers, and no other entry stays. A router that
@@ -221,8 +231,8 @@ impl Components {
     /// in. What that one holds is lost: the flits on its incoming wires, and with them what it would have sent in the
     /// next cycle. All else goes on. `Err` where there was no memory; then nothing has changed.
     pub fn replace(&mut self, alloc: Global, place: usize, part: Part) -> Result<(), NoMemory>
-        requires links { slice_get (frames_of self.old) place ≡ Some (frame_of part) }
-        requires kind { is_interface (frame_of part) ≡ false }
+        requires links { slice_get (wirings_of self.old) place ≡ Some (wiring_of part) }
+        requires kind { is_interface (wiring_of part) ≡ false }
         ensures ok { IfOk result (λ done. self.new ≡ record self.old {
           parts = slice_set self.old.parts place (emptied part);
           wires = without_held part self.old.wires;
@@ -236,19 +246,19 @@ impl Components {
 
     /// Events before the first cycle.
     pub fn prepare(&mut self, events: &[Event])
-        requires { All (IsDoable (frames_of self.old)) events.now }
+        requires { All (IsDoable (wirings_of self.old)) events.now }
         ensures { self.new ≡ record self.old { parts = switched events.now self.old.parts } }
     {
         switch(&mut self.parts, &mut self.turns.injecting, events);
-        self.handing.wake_for(events);
+        self.enqueuing.mark_active_for(events);
     }
 
     /// One cycle. It takes no memory and can't fail, and every order gives the same.
     pub fn step(&mut self, order: &Order, cycle: u32, events: &[Event])
         requires order { length order.now ≡ length self.old.parts }
         requires cycle { cycle < max_cycles }
-        requires events { All (IsDoable (frames_of self.old)) events.now }
-        ensures { Cycle events.now cycle self.old self.new }
+        requires events { All (IsDoable (wirings_of self.old)) events.now }
+        ensures { ComponentsCycle events.now cycle self.old self.new }
     {
         self.step_from::<Brand>(order, cycle, events, Blank::new(1));
     }
@@ -265,8 +275,8 @@ impl Components {
     )
         requires order { length order.now ≡ length self.old.parts }
         requires cycle { cycle < max_cycles }
-        requires events { All (IsDoable (frames_of self.old)) events.now }
-        ensures cycle { Cycle events.now cycle self.old self.new }
+        requires events { All (IsDoable (wirings_of self.old)) events.now }
+        ensures cycle { ComponentsCycle events.now cycle self.old self.new }
         ensures steps { steps.new
             ≤ steps.old + 2 * flits_on self.old.wires + 2 * flits_on self.new.wires }
     {
@@ -275,7 +285,7 @@ impl Components {
             &mut self.parts,
             &mut self.wires,
             &mut self.channels,
-            &mut self.handing,
+            &mut self.enqueuing,
             &mut self.turns,
             cycle,
             events,
@@ -294,8 +304,8 @@ impl Components {
 
     // The same, with what has come to no wire yet.
     fn put(&mut self, place: usize, part: Part, onward: Onward)
-        requires links { slice_get (frames_of self.old) place ≡ Some (frame_of part) }
-        requires kind { is_interface (frame_of part) ≡ false }
+        requires links { slice_get (wirings_of self.old) place ≡ Some (wiring_of part) }
+        requires kind { is_interface (wiring_of part) ≡ false }
         requires onward { onward ≡ replicate (length self.old.wires) Nothing }
         ensures { self.new ≡ record self.old {
           parts = slice_set self.old.parts place (emptied part);
@@ -318,9 +328,10 @@ impl Components {
         channels: Channels,
     ) -> Result<Components, NoMemory>
         requires rooms { length rooms.now ≡ queues_of_interface * length chip.now.nis }
-        requires lanes { All (IsLane (length channels.words) (part_count chip.now)) channels.lanes }
+        requires channel_states { All (IsChannelState (length channels.words) (part_count chip.now))
+            channels.channel_states }
         ensures { IfOk result (λ made. made
-            ≡ first_components chip.now kind rooms.now channels.lanes channels.words) }
+            ≡ first_components chip.now kind rooms.now channels.channel_states channels.words) }
     {
         let _ = chip.slots();
         let parts = parts_of(alloc, chip, kind, rooms)?;
@@ -330,7 +341,7 @@ impl Components {
             wires: beside.wires,
             turns: beside.turns,
             channels,
-            handing: beside.handing,
+            enqueuing: beside.enqueuing,
             counts: beside.counts,
         })
     }
@@ -342,52 +353,10 @@ impl Components {
         requires one { L.parts ≡ 1 }
         requires order { length order.now ≡ length self.old.parts }
         requires cycle { cycle < max_cycles }
-        requires events { All (IsDoable (frames_of self.old)) events.now }
-        ensures { Cycle events.now cycle self.old self.new }
+        requires events { All (IsDoable (wirings_of self.old)) events.now }
+        ensures { ComponentsCycle events.now cycle self.old self.new }
     {
         let mut steps = Steps::<L>::open(blank);
         self.step_counted(order, cycle, events, &mut steps);
     }
-}
-
-// One cycle of components, wires and channels up to where flits land: events, refilling, driving, and taking.
-fn run<L: Ledger>(
-    parts: &mut [Part],
-    wires: &mut Wires,
-    channels: &mut Channels,
-    handing: &mut Handing,
-    turns: &mut Turns,
-    cycle: u32,
-    events: &[Event],
-    steps: &mut Steps<L>,
-)
-    requires wired { IsWired (map frame_of parts.old) (length wires.old) }
-    requires ready { AreReady (map frame_of parts.old) (map way_of parts.old) wires.old turns.old }
-    requires injecting { AreInjecting parts.old turns.old.injecting }
-    requires lanes { All (IsLane (length channels.old.words) (length parts.old)) channels.old.lanes }
-    requires events { All (IsDoable (map frame_of parts.old)) events.now }
-    requires handing { AreHanding parts.old channels.old.lanes handing.old }
-    ensures moment { record { parts = parts.new; lanes = channels.new.lanes }
-        ≡ taken_of channels.old.words events.now cycle
-        (record { parts = parts.old; lanes = channels.old.lanes }) }
-    ensures wires { wires.new ≡ wires_driven (ready_of channels.old.words events.now cycle
-        (record { parts = all_seen wires.old parts.old; lanes = channels.old.lanes })).parts
-        (length wires.old) cycle }
-    ensures words { channels.new.words ≡ channels.old.words }
-    ensures lanes { All (IsLane (length channels.new.words) (length parts.new)) channels.new.lanes }
-    ensures frames { map frame_of parts.new ≡ map frame_of parts.old }
-    ensures ways { map way_of parts.new ≡ map way_of parts.old }
-    ensures turns { turns.new ≡ record turns.old {
-      onward = replicate (length wires.old) Nothing;
-      injecting = turns.new.injecting;
-    } }
-    ensures injecting { AreInjecting parts.new turns.new.injecting }
-    ensures handing { AreHanding parts.new channels.new.lanes handing.new }
-    ensures steps { steps.new ≤ steps.old + flits_on wires.old + flits_on wires.new }
-{
-    switch(parts, &mut turns.injecting, events);
-    handing.wake_for(events);
-    channels.refill(handing, parts, &mut turns.injecting, cycle);
-    drive(parts, turns, cycle, wires, handing, steps);
-    channels.take(parts, &mut turns.injecting, cycle);
 }

@@ -3,38 +3,46 @@
 ghost use Rattle.std.specs.Prelude.{◌≡◌, ◌<◌, ◌≤◌, ◌+◌, ◌^◌, ◌==◌, All, Some};
 ghost use Rattle.std.specs.Prelude.{false, fold, length, map, take, true};
 ghost use Rattle.aeth_components.specs.Busy.{AreMarked, TakesNothing};
-ghost use Rattle.aeth_components.specs.Channels.{OfLane};
+ghost use Rattle.aeth_components.specs.Channels.{OfChannelState};
 ghost use Rattle.aeth_components.specs.Counting.{counted, counted_among, noted};
 ghost use Rattle.aeth_components.specs.Counting.{noted_among, written_over};
 ghost use Rattle.aeth_components.specs.Homes.{AreHomes};
-ghost use Rattle.aeth_components.specs.Lanes.{IsLane, with_lane};
+ghost use Rattle.aeth_components.specs.ChannelStates.{IsChannelState, with_channel_state};
 
+use crate::channel_state::ChannelState;
 use crate::homes::{Homes, channel_of};
-use crate::lane::Lane;
 use crate::parts::{brought, is_silent};
 use aeth_base::Marks;
 use aeth_router::Part;
 
 // Counts what has landed of one channel, and tells whether any has.
-pub(crate) fn count_one(parts: &[Part], lane: &mut Lane, landings: &mut [u32], cycle: u32) -> bool
+pub(crate) fn count_one(
+    parts: &[Part],
+    channel_state: &mut ChannelState,
+    landings: &mut [u32],
+    cycle: u32,
+) -> bool
     requires cycle { cycle + 1 < 2 ^ 32 }
-    requires lane { IsLane (length landings.old) (length parts.now) lane.old }
-    ensures lane { lane.new ≡ counted cycle parts.now lane.old }
-    ensures landings { landings.new ≡ noted cycle parts.now landings.old lane.old }
-    ensures same { result ≡ false → lane.new ≡ lane.old }
+    requires channel_state { IsChannelState (length landings.old) (length parts.now)
+        channel_state.old }
+    ensures channel_state { channel_state.new ≡ counted cycle parts.now channel_state.old }
+    ensures landings { landings.new ≡ noted cycle parts.now landings.old channel_state.old }
+    ensures same { result ≡ false → channel_state.new ≡ channel_state.old }
 {
-    let part = &parts[lane.receiver.ni.0 as usize];
+    let part = &parts[channel_state.receiver.ni.0 as usize];
     if is_silent(part) {
         return false;
     }
-    if lane.landed < lane.handed && lane.is_open(cycle) {
-        let words = brought(part, lane.receiver.queue).min(lane.handed - lane.landed);
+    if channel_state.landed < channel_state.enqueued && channel_state.is_open(cycle) {
+        let words = brought(part, channel_state.receiver.queue).min(
+            channel_state.enqueued - channel_state.landed,
+        );
         if words == 0 {
             return false;
         }
-        let from = lane.first as usize + lane.landed as usize;
+        let from = channel_state.first as usize + channel_state.landed as usize;
         note(landings, from, words, cycle + 1);
-        lane.landed += words;
+        channel_state.landed += words;
         return true;
     }
     false
@@ -43,7 +51,7 @@ pub(crate) fn count_one(parts: &[Part], lane: &mut Lane, landings: &mut [u32], c
 // Counts what has landed of the channel of a number. The receiver of one of which words have landed
 // may take.
 fn count_at(
-    lanes: &mut [Lane],
+    channel_states: &mut [ChannelState],
     taking: &mut Marks,
     parts: &[Part],
     number: usize,
@@ -51,22 +59,24 @@ fn count_at(
     cycle: u32,
 )
     requires cycle { cycle + 1 < 2 ^ 32 }
-    requires number { number < length lanes.old }
-    requires lane { OfLane lanes.old number (IsLane (length landings.old) (length parts.now)) }
-    requires taking { AreMarked TakesNothing taking.old lanes.old }
-    ensures lanes { lanes.new ≡ with_lane number (counted cycle parts.now) lanes.old }
-    ensures landings { OfLane lanes.old number
-        (λ lane. landings.new ≡ noted cycle parts.now landings.old lane) }
-    ensures taking { AreMarked TakesNothing taking.new lanes.new }
+    requires number { number < length channel_states.old }
+    requires channel_state { OfChannelState channel_states.old number
+        (IsChannelState (length landings.old) (length parts.now)) }
+    requires taking { AreMarked TakesNothing taking.old channel_states.old }
+    ensures channel_states { channel_states.new
+        ≡ with_channel_state number (counted cycle parts.now) channel_states.old }
+    ensures landings { OfChannelState channel_states.old number
+        (λ channel_state. landings.new ≡ noted cycle parts.now landings.old channel_state) }
+    ensures taking { AreMarked TakesNothing taking.new channel_states.new }
 {
-    if count_one(parts, &mut lanes[number], landings, cycle) {
+    if count_one(parts, &mut channel_states[number], landings, cycle) {
         taking.mark(number);
     }
 }
 
 // Counts what has landed of the channels that receive at one interface.
 pub(crate) fn count_received(
-    lanes: &mut [Lane],
+    channel_states: &mut [ChannelState],
     taking: &mut Marks,
     homes: &Homes,
     parts: &[Part],
@@ -77,18 +87,19 @@ pub(crate) fn count_received(
     requires cycle { cycle + 1 < 2 ^ 32 }
     requires number { number < length parts.now }
     requires few { length parts.now < 2 ^ 32 }
-    requires lanes { All (IsLane (length landings.old) (length parts.now)) lanes.old }
-    requires homes { AreHomes homes.now lanes.old }
+    requires channel_states { All (IsChannelState (length landings.old) (length parts.now))
+        channel_states.old }
+    requires homes { AreHomes homes.now channel_states.old }
     requires apart { homes.now.is_apart ≡ true }
-    requires taking { AreMarked TakesNothing taking.old lanes.old }
-    ensures lanes { lanes.new
-        ≡ map (counted_among (λ i. i == number) cycle parts.now) lanes.old }
+    requires taking { AreMarked TakesNothing taking.old channel_states.old }
+    ensures channel_states { channel_states.new
+        ≡ map (counted_among (λ i. i == number) cycle parts.now) channel_states.old }
     ensures landings { landings.new
-        ≡ fold (noted_among (λ i. i == number) cycle parts.now) landings.old lanes.old }
-    ensures taking { AreMarked TakesNothing taking.new lanes.new }
+        ≡ fold (noted_among (λ i. i == number) cycle parts.now) landings.old channel_states.old }
+    ensures taking { AreMarked TakesNothing taking.new channel_states.new }
 {
-    if let Some(channel) = channel_of(homes, lanes, &parts[number], number as u32) {
-        count_at(lanes, taking, parts, channel, landings, cycle);
+    if let Some(channel) = channel_of(homes, channel_states, &parts[number], number as u32) {
+        count_at(channel_states, taking, parts, channel, landings, cycle);
     }
 }
 

@@ -5,17 +5,17 @@ ghost use Rattle.std.specs.Prelude.{◌≡◌, ◌<◌, ◌≤◌, ◌+◌, ℕ,
 ghost use Rattle.aeth_router.specs.Onward.{CameFrom, Nothing, arrival_at};
 ghost use Rattle.aeth_components.specs.Components.{wires_driven};
 ghost use Rattle.aeth_components.specs.Ends.{AreEnds};
-ghost use Rattle.aeth_components.specs.Frames.{IsWired, frame_of};
-ghost use Rattle.aeth_components.specs.Handing.{HasWaitingPlaces, Wakes};
+ghost use Rattle.aeth_components.specs.Wirings.{IsWired, wiring_of};
+ghost use Rattle.aeth_components.specs.Enqueuing.{HasWaitingPlaces, MarksActive};
 ghost use Rattle.aeth_components.specs.Injecting.{AreInjecting};
 ghost use Rattle.aeth_components.specs.Passing.{forwarded_from, passed_from, way_of};
 ghost use Rattle.aeth_components.specs.Ready.{AreReady};
 ghost use Rattle.aeth_components.specs.Seen.{all_seen, interfaces_driven};
 ghost use Rattle.aeth_components.specs.Sending.{IsSending};
-ghost use Rattle.aeth_components.specs.Turns.{flits_on};
+ghost use Rattle.aeth_components.specs.FlitsOnWires.{flits_on};
 
 use crate::ends::Ends;
-use crate::handing::Handing;
+use crate::enqueuing::Enqueuing;
 use crate::injecting::inject;
 use crate::turns::Turns;
 use aeth_base::{LinkId, Steps};
@@ -31,13 +31,13 @@ pub(crate) fn drive<L: Ledger>(
     turns: &mut Turns,
     cycle: u32,
     wires: &mut Wires,
-    handing: &mut Handing,
+    enqueuing: &mut Enqueuing,
     steps: &mut Steps<L>,
 )
-    requires wired { IsWired (map frame_of parts.old) (length wires.old) }
-    requires ready { AreReady (map frame_of parts.old) (map way_of parts.old) wires.old turns.old }
+    requires wired { IsWired (map wiring_of parts.old) (length wires.old) }
+    requires ready { AreReady (map wiring_of parts.old) (map way_of parts.old) wires.old turns.old }
     requires injecting { AreInjecting parts.old turns.old.injecting }
-    requires waiting { HasWaitingPlaces handing.old }
+    requires waiting { HasWaitingPlaces enqueuing.old }
     ensures wires { wires.new
         ≡ wires_driven (all_seen wires.old parts.old) (length wires.old) cycle }
     ensures parts { parts.new ≡ interfaces_driven cycle parts.old }
@@ -46,14 +46,14 @@ pub(crate) fn drive<L: Ledger>(
       injecting = turns.new.injecting;
     } }
     ensures injecting { AreInjecting parts.new turns.new.injecting }
-    ensures handing { Wakes (IsSending cycle parts.old) handing.old handing.new }
+    ensures enqueuing { MarksActive (IsSending cycle parts.old) enqueuing.old enqueuing.new }
     ensures steps { steps.new ≤ steps.old + flits_on wires.old + flits_on wires.new }
 {
     if turns.has_tables {
         look_up(parts, &turns.ends, wires, cycle, &mut turns.onward, steps);
     }
     turns.onward.settle(wires);
-    inject(parts, &mut turns.injecting, cycle, wires, handing, steps);
+    inject(parts, &mut turns.injecting, cycle, wires, enqueuing, steps);
 }
 
 // Passes on the flits of wires that end at routers with tables, where all others were passed on before, and
@@ -66,8 +66,8 @@ fn look_up<L: Ledger>(
     onward: &mut Onward,
     steps: &mut Steps<L>,
 )
-    requires wired { IsWired (map frame_of parts.now) (length wires.now) }
-    requires ends { AreEnds (map frame_of parts.now) (length wires.now) ends.now }
+    requires wired { IsWired (map wiring_of parts.now) (length wires.now) }
+    requires ends { AreEnds (map wiring_of parts.now) (length wires.now) ends.now }
     requires size { length onward.old ≡ length wires.now }
     requires forwarded { (out : ℕ) → out < length wires.now → CameFrom
         (forwarded_from ends.now.receivers.items (map way_of parts.now) wires.now out)

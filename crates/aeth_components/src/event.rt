@@ -4,7 +4,7 @@ ghost use Rattle.std.specs.Prelude.{◌≡◌};
 ghost use Rattle.aeth_ni.specs.Writes.{addressee};
 ghost use Rattle.aeth_components.specs.Events.{event_part};
 
-use crate::lane::ChannelEnd;
+use crate::channel_state::ChannelEnd;
 use aeth_base::NiId;
 use aeth_ni::Write;
 

@@ -2,11 +2,11 @@
 
 ghost use Rattle.std.specs.Prelude.{◌≡◌, ◌≤◌, ◌<◌, ◌^◌, ℕ, IfOk, IfSome, List, Some, length};
 ghost use Rattle.std.specs.Prelude.{slice_get, slice_set, true};
-ghost use Rattle.aeth_components.specs.Channels.{OfLane};
+ghost use Rattle.aeth_components.specs.Channels.{OfChannelState};
 ghost use Rattle.aeth_components.specs.Homes.{AreHomes, home_at, home_count};
 ghost use Rattle.aeth_components.specs.Queues.{brought_by};
 
-use crate::lane::Lane;
+use crate::channel_state::ChannelState;
 use aeth_base::NoMemory;
 use aeth_router::Part;
 use std::alloc::Global;
@@ -29,24 +29,25 @@ pub(crate) struct Homes {
 
 impl Homes {
     // Those of these channels. Later calls take no memory.
-    pub(crate) fn new(alloc: Global, lanes: &[Lane]) -> Result<Homes, NoMemory>
-        requires { length lanes.now < 2 ^ 63 }
-        ensures { IfOk result (λ homes. AreHomes homes lanes.now) }
+    pub(crate) fn new(alloc: Global, channel_states: &[ChannelState]) -> Result<Homes, NoMemory>
+        requires { length channel_states.now < 2 ^ 63 }
+        ensures { IfOk result (λ homes. AreHomes homes channel_states.now) }
     {
         Ok(Homes {
             numbers: vec![in alloc; NOBODY; INTERFACES * QUEUES]?,
-            is_apart: await_none(lanes),
+            is_apart: await_none(channel_states),
         })
     }
 
     // A channel has changed.
-    pub(crate) fn note(&mut self, number: usize, lane: &Lane)
+    pub(crate) fn note(&mut self, number: usize, channel_state: &ChannelState)
         requires { length self.old.numbers.items ≡ home_count }
-        ensures { (lanes : List Lane) → AreHomes self.old lanes → number < length lanes
-            → AreHomes self.new (slice_set lanes number lane.now) }
+        ensures { (channel_states : List ChannelState) → AreHomes self.old channel_states
+            → number < length channel_states
+            → AreHomes self.new (slice_set channel_states number channel_state.now) }
     {
-        if lane.landed < lane.accepted {
-            let home = place_of(lane.receiver.ni.0, lane.receiver.queue);
+        if channel_state.landed < channel_state.accepted {
+            let home = place_of(channel_state.receiver.ni.0, channel_state.receiver.queue);
             let is_own = come_to(&mut self.numbers, home, number);
             self.is_apart = self.is_apart && is_own;
         }
@@ -54,12 +55,13 @@ impl Homes {
 }
 
 // Whether no words are still to land of any channel.
-fn await_none(lanes: &[Lane]) -> bool
-    ensures { result ≡ true → (number : ℕ) (lane : Lane) → slice_get lanes.now number ≡ Some lane
-        → lane.accepted ≤ lane.landed }
+fn await_none(channel_states: &[ChannelState]) -> bool
+    ensures { result ≡ true → (number : ℕ) (channel_state : ChannelState)
+        → slice_get channel_states.now number ≡ Some channel_state
+        → channel_state.accepted ≤ channel_state.landed }
 {
-    for place in 0..lanes.len() {
-        if lanes[place].landed < lanes[place].accepted {
+    for place in 0..channel_states.len() {
+        if channel_states[place].landed < channel_states[place].accepted {
             return false;
         }
     }
@@ -89,19 +91,26 @@ fn come_to(numbers: &mut [usize], place: usize, number: usize) -> bool
 
 // A channel that receives at an interface: the one of which the last flit there brought words, if it
 // brought any of one. A place may name a channel that receives elsewhere by now.
-pub(crate) fn channel_of(homes: &Homes, lanes: &[Lane], part: &Part, number: u32) -> Option<usize>
-    requires homes { AreHomes homes.now lanes.now }
+pub(crate) fn channel_of(
+    homes: &Homes,
+    channel_states: &[ChannelState],
+    part: &Part,
+    number: u32,
+) -> Option<usize>
+    requires homes { AreHomes homes.now channel_states.now }
     requires apart { homes.now.is_apart ≡ true }
-    ensures within { IfSome result (λ channel. channel < length lanes.now) }
+    ensures within { IfSome result (λ channel. channel < length channel_states.now) }
     ensures at { IfSome result
-        (λ channel. OfLane lanes.now channel (λ lane. lane.receiver.ni.0 ≡ number)) }
-    ensures own { (channel : ℕ) (lane : Lane) → slice_get lanes.now channel ≡ Some lane
-        → lane.receiver.ni.0 ≡ number → lane.landed < lane.accepted
-        → 0 < brought_by lane.receiver.queue part.now → result ≡ Some channel }
+        (λ channel. OfChannelState channel_states.now channel
+        (λ channel_state. channel_state.receiver.ni.0 ≡ number)) }
+    ensures own { (channel : ℕ) (channel_state : ChannelState)
+        → slice_get channel_states.now channel ≡ Some channel_state
+        → channel_state.receiver.ni.0 ≡ number → channel_state.landed < channel_state.accepted
+        → 0 < brought_by channel_state.receiver.queue part.now → result ≡ Some channel }
 {
     let queue = told_queue(part)?;
     let channel = homes.numbers[place_of(number, queue)];
-    if channel < lanes.len() && lanes[channel].receiver.ni.0 == number {
+    if channel < channel_states.len() && channel_states[channel].receiver.ni.0 == number {
         return Some(channel);
     }
     None

@@ -8,21 +8,21 @@ ghost use Rattle.aeth_ni.specs.Limits.{queues_of_interface};
 ghost use Rattle.aeth_ni.specs.Sending.{emitted};
 ghost use Rattle.aeth_ni.specs.Writes.{addressee};
 ghost use Rattle.aeth_components.specs.Events.{event_part};
-ghost use Rattle.aeth_components.specs.Frames.{IsWired, frame_of};
-ghost use Rattle.aeth_components.specs.Handing.{HasWaitingPlaces, Wakes};
+ghost use Rattle.aeth_components.specs.Wirings.{IsWired, wiring_of};
+ghost use Rattle.aeth_components.specs.Enqueuing.{HasWaitingPlaces, MarksActive};
 ghost use Rattle.aeth_components.specs.Injecting.{AreInjecting, HasPlaces, IsEntered};
 ghost use Rattle.aeth_components.specs.SlotMarks.{MarksMore};
-ghost use Rattle.aeth_components.specs.Injecting.{NotesEvent, WakesQueue, WakesTold};
+ghost use Rattle.aeth_components.specs.Injecting.{NotesEvent, MarksQueueActive, MarksToldActive};
 ghost use Rattle.aeth_components.specs.SlotMarks.{marks_at};
 ghost use Rattle.aeth_components.specs.Injecting.{place_of_entry};
 ghost use Rattle.aeth_components.specs.Seen.{interfaces_driven};
 ghost use Rattle.aeth_components.specs.Sending.{Injects, IsSending};
-ghost use Rattle.aeth_components.specs.Turns.{sends_own};
+ghost use Rattle.aeth_components.specs.FlitsOnWires.{sends_own};
 ghost use Rattle.aeth_components.specs.View.{queue_in};
 ghost use Rattle.aeth_components.specs.declared.event.Event.TheVariants.{Change};
 
+use crate::enqueuing::Enqueuing;
 use crate::event::Event;
-use crate::handing::Handing;
 use crate::parts::{may_send, sends_in};
 use crate::slot_marks::SlotMarks;
 use aeth_base::{Marks, NoMemory, Steps};
@@ -69,13 +69,14 @@ impl Injecting {
         cycle as usize % self.slots.len()
     }
 
-    // Notes what an event enters in a table, or takes out of one, and wakes the queue that it changes.
+    // Notes what an event enters in a table, or takes out of one, and marks the queue that it
+    // changes as active.
     pub(crate) fn note(&mut self, event: &Event)
         requires { HasPlaces (event_part event.now + 1) self.old }
         ensures { NotesEvent event.now self.old self.new }
     {
         match event {
-            Event::Halt(end) | Event::Finish(end) => self.wake(end.ni.0 as usize, end.queue),
+            Event::Halt(end) | Event::Finish(end) => self.mark_active(end.ni.0 as usize, end.queue),
             Event::Change(write) => self.note_write(write),
         }
     }
@@ -88,15 +89,15 @@ impl Injecting {
         match *write {
             Write::SetSlot { ni, slot, queue } => self.enter(ni.0 as usize, queue, slot as usize),
             Write::ClearSlot { ni, slot } => self.clear(ni.0 as usize, slot as usize),
-            Write::SetRoute { ni, queue, .. } => self.wake(ni.0 as usize, queue),
-            Write::ClearRoute { ni, queue } => self.wake(ni.0 as usize, queue),
+            Write::SetRoute { ni, queue, .. } => self.mark_active(ni.0 as usize, queue),
+            Write::ClearRoute { ni, queue } => self.mark_active(ni.0 as usize, queue),
         }
     }
 
     // An interface may send in each slot of one of its queues.
-    pub(crate) fn wake(&mut self, number: usize, queue: u8)
+    pub(crate) fn mark_active(&mut self, number: usize, queue: u8)
         requires { HasPlaces (number + 1) self.old }
-        ensures { WakesQueue number queue self.old self.new }
+        ensures { MarksQueueActive number queue self.old self.new }
     {
         let first = place_of(number, queue, 0);
         let end = first + self.slots.len();
@@ -110,23 +111,23 @@ impl Injecting {
     // So it may where a queue has changed that has something to send then.
     pub(crate) fn tell(&mut self, part: &Part, number: usize, queue: u8)
         requires { HasPlaces (number + 1) self.old }
-        ensures woken { is_some (emitted (queue_in queue (Some part.now))) ≡ true
-            → WakesQueue number queue self.old self.new }
+        ensures marked_active { is_some (emitted (queue_in queue (Some part.now))) ≡ true
+            → MarksQueueActive number queue self.old self.new }
         ensures kept { is_some (emitted (queue_in queue (Some part.now))) ≡ false
             → self.new ≡ self.old }
     {
         if may_send(part, queue) {
-            self.wake(number, queue);
+            self.mark_active(number, queue);
         }
     }
 
     // So it may where a flit has come to one of its queues.
-    pub(crate) fn wake_told(&mut self, number: usize, told: Option<u8>)
+    pub(crate) fn mark_told_active(&mut self, number: usize, told: Option<u8>)
         requires { HasPlaces (number + 1) self.old }
-        ensures { WakesTold number told self.old self.new }
+        ensures { MarksToldActive number told self.old self.new }
     {
         if let Some(queue) = told {
-            self.wake(number, queue);
+            self.mark_active(number, queue);
         }
     }
 
@@ -173,24 +174,24 @@ fn place_of(number: usize, queue: u8, slot: usize) -> usize
     MOST_SLOTS * (QUEUES_OF_INTERFACE * number + queue as usize % QUEUES_OF_INTERFACE) + slot
 }
 
-// Each interface that sends something of its own in a cycle drives it, and the channels that wait for
-// room there may hand words on. Each that may send is marked in the slot, and others are passed over. One that sends
-// nothing more there is marked no more. It counts a step for each that sends.
+// Each interface that sends something of its own in a cycle drives it, and the channels that wait
+// for room there may enqueue words. Each that may send is marked in the slot, and others are passed
+// over. One that sends nothing more there is marked no more. It counts a step for each that sends.
 pub(crate) fn inject<L: Ledger>(
     parts: &mut [Part],
     injecting: &mut Injecting,
     cycle: u32,
     wires: &mut Wires,
-    handing: &mut Handing,
+    enqueuing: &mut Enqueuing,
     steps: &mut Steps<L>,
 )
     requires injecting { AreInjecting parts.old injecting.old }
-    requires wired { IsWired (map frame_of parts.old) (length wires.old) }
-    requires waiting { HasWaitingPlaces handing.old }
+    requires wired { IsWired (map wiring_of parts.old) (length wires.old) }
+    requires waiting { HasWaitingPlaces enqueuing.old }
     ensures parts { parts.new ≡ interfaces_driven cycle parts.old }
     ensures injecting { AreInjecting parts.new injecting.new }
     ensures wires { Injects cycle parts.old wires.old wires.new }
-    ensures handing { Wakes (IsSending cycle parts.old) handing.old handing.new }
+    ensures enqueuing { MarksActive (IsSending cycle parts.old) enqueuing.old enqueuing.new }
     ensures steps { steps.new ≤ steps.old + count_by (sends_own cycle) parts.old }
 {
     let slot = injecting.slot(cycle);
@@ -200,7 +201,7 @@ pub(crate) fn inject<L: Ledger>(
         if sends_in(&parts[number], slot) {
             let part = &mut parts[number];
             part.drive(u64::from(cycle), wires);
-            handing.wake(number as u32);
+            enqueuing.mark_active(number as u32);
             steps.tick();
         }
         if !sends_in(&parts[number], slot) {

@@ -5,12 +5,12 @@ ghost use Rattle.std.specs.Prelude.{slice_index, slice_set};
 ghost use Rattle.aeth_components.specs.Changes.{on_interface};
 ghost use Rattle.aeth_components.specs.Counting.{counted, flits_counted, noted};
 ghost use Rattle.aeth_components.specs.Ends.{AreEnds};
-ghost use Rattle.aeth_components.specs.Frames.{IsWired, frame_of};
+ghost use Rattle.aeth_components.specs.Wirings.{IsWired, wiring_of};
 ghost use Rattle.aeth_components.specs.Injecting.{AreInjecting, IsTold};
-ghost use Rattle.aeth_components.specs.Lanes.{IsLane};
+ghost use Rattle.aeth_components.specs.ChannelStates.{IsChannelState};
 ghost use Rattle.aeth_components.specs.Passing.{AreForwarded, forwarded_from, way_of};
 ghost use Rattle.aeth_components.specs.Seen.{flits_landed, interfaces_latched, landed};
-ghost use Rattle.aeth_components.specs.Turns.{flits_on};
+ghost use Rattle.aeth_components.specs.FlitsOnWires.{flits_on};
 ghost use Rattle.aeth_ni.specs.Queue.{capped};
 ghost use Rattle.aeth_router.specs.Onward.{CameFrom, Nothing, arrival_at};
 
@@ -34,23 +34,24 @@ pub(crate) fn land<L: Ledger>(
     cycle: u32,
     steps: &mut Steps<L>,
 )
-    requires wired { IsWired (map frame_of parts.old) (length wires.now) }
-    requires ends { AreEnds (map frame_of parts.old) (length wires.now) turns.old.ends }
+    requires wired { IsWired (map wiring_of parts.old) (length wires.now) }
+    requires ends { AreEnds (map wiring_of parts.old) (length wires.now) turns.old.ends }
     requires noted { AreForwarded (map way_of parts.old) turns.old.forwarding.items }
     requires onward { turns.old.onward ≡ replicate (length wires.now) Nothing }
     requires injecting { AreInjecting parts.old turns.old.injecting }
-    requires lanes { All (IsLane (length counts.old.landings.items) (length parts.old))
-        channels.old.lanes }
+    requires channel_states { All
+        (IsChannelState (length counts.old.landings.items) (length parts.old))
+        channels.old.channel_states }
     requires flits { length counts.old.flits.items ≤ length wires.now }
     requires cycle { cycle + 1 < 2 ^ 32 }
     ensures parts { parts.new ≡ flits_landed wires.now parts.old }
     ensures injecting { AreInjecting parts.new turns.new.injecting }
-    ensures lanes { channels.new.lanes
-        ≡ map (counted cycle (interfaces_latched wires.now parts.old)) channels.old.lanes }
+    ensures channel_states { channels.new.channel_states
+        ≡ map (counted cycle (interfaces_latched wires.now parts.old)) channels.old.channel_states }
     ensures words { channels.new.words ≡ channels.old.words }
     ensures landings { counts.new.landings.items
         ≡ fold (noted cycle (interfaces_latched wires.now parts.old)) counts.old.landings.items
-        channels.old.lanes }
+        channels.old.channel_states }
     ensures flits { counts.new.flits.items ≡ flits_counted wires.now counts.old.flits.items }
     ensures turns { turns.new ≡ record turns.old {
       onward = turns.new.onward;
@@ -81,7 +82,7 @@ pub(crate) fn land<L: Ledger>(
         count_flit(&mut counts.flits, wire);
         if number < interfaces {
             let told = latch_one(&mut parts[number], flit);
-            injecting.wake_told(number, told);
+            injecting.mark_told_active(number, told);
             channels.count_at(parts, number, &mut counts.landings, cycle);
         } else {
             forwardings[number].pass(flit, onward);

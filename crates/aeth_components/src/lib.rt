@@ -2,19 +2,20 @@
 #![tactic(auto)]
 
 mod beside;
+mod channel_state;
 mod channels;
 mod components;
 mod counting;
 mod counts;
+mod cycle;
 mod driving;
 mod ends;
+mod enqueuing;
 mod event;
 mod forwarding;
-mod handing;
 mod homes;
 mod injecting;
 mod landing;
-mod lane;
 pub mod laws;
 mod making;
 mod noted;
@@ -26,7 +27,7 @@ mod sending;
 mod slot_marks;
 mod turns;
 
+pub use channel_state::{ChannelEnd, ChannelState};
 pub use components::Components;
 pub use event::Event;
-pub use lane::{ChannelEnd, Lane};
 pub use making::RouterKind;

@@ -3,8 +3,8 @@
 ghost use Rattle.std.specs.Prelude.{◌<◌, ◌^◌, IfOk, length};
 ghost use Rattle.aeth_components.specs.Busy.{AreNoted};
 
+use crate::channel_state::ChannelState;
 use crate::homes::Homes;
-use crate::lane::Lane;
 use aeth_base::{Marks, NoMemory};
 use std::alloc::Global;
 
@@ -19,13 +19,14 @@ pub(crate) struct Noted {
 
 impl Noted {
     // Each of these channels is marked. Later calls take no memory.
-    pub(crate) fn of(alloc: Global, lanes: &[Lane]) -> Result<Noted, NoMemory>
-        requires { length lanes.now < 2 ^ 63 }
-        ensures { IfOk result (λ noted. AreNoted noted.busy noted.taking noted.homes lanes.now) }
+    pub(crate) fn of(alloc: Global, channel_states: &[ChannelState]) -> Result<Noted, NoMemory>
+        requires { length channel_states.now < 2 ^ 63 }
+        ensures { IfOk result
+            (λ noted. AreNoted noted.busy noted.taking noted.homes channel_states.now) }
     {
-        let busy = Marks::all(alloc, lanes.len())?;
-        let taking = Marks::all(alloc, lanes.len())?;
-        let homes = Homes::new(alloc, lanes)?;
+        let busy = Marks::all(alloc, channel_states.len())?;
+        let taking = Marks::all(alloc, channel_states.len())?;
+        let homes = Homes::new(alloc, channel_states)?;
         Ok(Noted {
             busy,
             taking,

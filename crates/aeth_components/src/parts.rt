@@ -9,11 +9,11 @@ ghost use Rattle.aeth_ni.specs.Sending.{emitted};
 ghost use Rattle.aeth_components.specs.Changes.{event_done, on_interface, told_by};
 ghost use Rattle.aeth_components.specs.Entering.{TakesRows, entered, with_rows};
 ghost use Rattle.aeth_components.specs.Events.{Suits};
-ghost use Rattle.aeth_components.specs.Frames.{frame_of};
+ghost use Rattle.aeth_components.specs.Wirings.{wiring_of};
 ghost use Rattle.aeth_components.specs.Injecting.{entries_of};
-ghost use Rattle.aeth_components.specs.Queues.{brought_by, draws, drawn, filled, fits};
-ghost use Rattle.aeth_components.specs.Handing.{room_left};
-ghost use Rattle.aeth_components.specs.Turns.{sends_own};
+ghost use Rattle.aeth_components.specs.Queues.{brought_by, dequeues, dequeued, filled, fits};
+ghost use Rattle.aeth_components.specs.Enqueuing.{room_left};
+ghost use Rattle.aeth_components.specs.FlitsOnWires.{sends_own};
 ghost use Rattle.aeth_components.specs.View.{queue_in};
 
 use crate::event::Event;
@@ -22,7 +22,7 @@ use aeth_router::{Part, RouterRow, are_by_router};
 
 // Does an event; a router or a stage has none to do.
 pub(crate) fn meet(part: &mut Part, event: &Event)
-    requires { Suits event.now (frame_of part.old) }
+    requires { Suits event.now (wiring_of part.old) }
     ensures { part.new ≡ on_interface (event_done event.now) part.old }
 {
     match part {
@@ -62,7 +62,7 @@ pub(crate) fn enter_all(parts: &mut [Part], rows: &[RouterRow])
 }
 
 // Hands words to a source queue, and gives how many; a router or a stage takes none.
-pub(crate) fn hand(part: &mut Part, queue: u8, words: &[u32]) -> u32
+pub(crate) fn enqueue(part: &mut Part, queue: u8, words: &[u32]) -> u32
     requires queue { queue < queues_of_interface }
     requires few { length words.now < 2 ^ 32 }
     ensures count { result ≡ told_by queue (fits words.now) part.old }
@@ -71,21 +71,21 @@ pub(crate) fn hand(part: &mut Part, queue: u8, words: &[u32]) -> u32
     ensures full { result < length words.now → told_by queue room_left part.new ≡ 0 }
 {
     match part {
-        Part::Interface(ni) => queues::hand(ni, queue, words),
+        Part::Interface(ni) => queues::enqueue(ni, queue, words),
         _ => 0,
     }
 }
 
 // Takes words out of a receive queue, at most so many, and gives how many; a router or a stage has
 // none.
-pub(crate) fn draw(part: &mut Part, queue: u8, pull: u32) -> u32
+pub(crate) fn dequeue(part: &mut Part, queue: u8, pull: u32) -> u32
     requires { queue < queues_of_interface }
-    ensures count { result ≡ told_by queue (draws pull) part.old }
+    ensures count { result ≡ told_by queue (dequeues pull) part.old }
     ensures within { result ≤ pull }
-    ensures part { part.new ≡ on_interface (changed queue (drawn pull)) part.old }
+    ensures part { part.new ≡ on_interface (changed queue (dequeued pull)) part.old }
 {
     match part {
-        Part::Interface(ni) => queues::draw(ni, queue, pull),
+        Part::Interface(ni) => queues::dequeue(ni, queue, pull),
         _ => 0,
     }
 }

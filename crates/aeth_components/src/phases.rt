@@ -1,28 +1,28 @@
 // What is done in a cycle to single components and channels: switching, refilling, and taking.
 
 ghost use Rattle.std.specs.Prelude.{◌≡◌, ◌<◌, All, length, map, true};
-ghost use Rattle.aeth_components.specs.Busy.{AreMarked, IsIdle, TakesNothing};
+ghost use Rattle.aeth_components.specs.Busy.{AreMarked, IsChannelIdle, TakesNothing};
 ghost use Rattle.aeth_components.specs.Changes.{switched};
 ghost use Rattle.aeth_components.specs.Events.{IsDoable};
-ghost use Rattle.aeth_components.specs.Frames.{frame_of};
+ghost use Rattle.aeth_components.specs.Wirings.{wiring_of};
 ghost use Rattle.aeth_components.specs.Injecting.{AreInjecting};
-ghost use Rattle.aeth_components.specs.Lanes.{IsEnd, IsLane, is_open};
+ghost use Rattle.aeth_components.specs.ChannelStates.{IsEnd, IsChannelState, is_open};
 ghost use Rattle.aeth_components.specs.Phases.{pulled, refilled};
-ghost use Rattle.aeth_components.specs.Handing.{IsFull};
+ghost use Rattle.aeth_components.specs.Enqueuing.{IsFull};
 
+use crate::channel_state::ChannelState;
 use crate::event::Event;
 use crate::injecting::Injecting;
-use crate::lane::Lane;
-use crate::parts::{draw, hand, meet};
+use crate::parts::{dequeue, enqueue, meet};
 use aeth_base::Marks;
 use aeth_router::Part;
 
 // Does the events of a cycle, one after the other, and notes who may inject from then on.
 pub(crate) fn switch(parts: &mut [Part], injecting: &mut Injecting, events: &[Event])
-    requires events { All (IsDoable (map frame_of parts.old)) events.now }
+    requires events { All (IsDoable (map wiring_of parts.old)) events.now }
     requires injecting { AreInjecting parts.old injecting.old }
     ensures parts { parts.new ≡ switched events.now parts.old }
-    ensures frames { map frame_of parts.new ≡ map frame_of parts.old }
+    ensures wirings { map wiring_of parts.new ≡ map wiring_of parts.old }
     ensures injecting { AreInjecting parts.new injecting.new }
 {
     for event in events {
@@ -32,66 +32,86 @@ pub(crate) fn switch(parts: &mut [Part], injecting: &mut Injecting, events: &[Ev
     }
 }
 
-// One channel hands its accepted words on.
+// One channel enqueues its accepted words.
 pub(crate) fn refill_one(
     parts: &mut [Part],
     injecting: &mut Injecting,
-    lane: &mut Lane,
+    channel_state: &mut ChannelState,
     words: &[u32],
     cycle: u32,
 )
-    requires lane { IsLane (length words.now) (length parts.old) lane.old }
+    requires channel_state { IsChannelState (length words.now) (length parts.old) channel_state.old }
     requires injecting { AreInjecting parts.old injecting.old }
     ensures injecting { AreInjecting parts.new injecting.new }
-    ensures turn { (parts.new, lane.new) ≡ refilled words.now cycle parts.old lane.old }
-    ensures full { is_open lane.new cycle ≡ true → lane.new.handed < lane.new.accepted
-        → IsFull parts.new lane.new.sender }
+    ensures turn { (parts.new, channel_state.new)
+        ≡ refilled words.now cycle parts.old channel_state.old }
+    ensures full { is_open channel_state.new cycle ≡ true
+        → channel_state.new.enqueued < channel_state.new.accepted
+        → IsFull parts.new channel_state.new.sender }
 {
-    if lane.handed < lane.accepted && lane.is_open(cycle) {
-        let first = lane.first as usize;
-        let from = first + lane.handed as usize;
-        let left = &words[from..first + lane.accepted as usize];
-        let part = &mut parts[lane.sender.ni.0 as usize];
-        lane.handed += hand(part, lane.sender.queue, left);
-        injecting.tell(part, lane.sender.ni.0 as usize, lane.sender.queue);
+    if channel_state.enqueued < channel_state.accepted && channel_state.is_open(cycle) {
+        let first = channel_state.first as usize;
+        let from = first + channel_state.enqueued as usize;
+        let left = &words[from..first + channel_state.accepted as usize];
+        let part = &mut parts[channel_state.sender.ni.0 as usize];
+        channel_state.enqueued += enqueue(part, channel_state.sender.queue, left);
+        injecting.tell(
+            part,
+            channel_state.sender.ni.0 as usize,
+            channel_state.sender.queue,
+        );
     }
 }
 
 // One receiver takes.
-pub(crate) fn take_one(parts: &mut [Part], injecting: &mut Injecting, lane: &mut Lane, cycle: u32)
-    requires end { IsEnd (length parts.old) lane.old.receiver }
+pub(crate) fn take_one(
+    parts: &mut [Part],
+    injecting: &mut Injecting,
+    channel_state: &mut ChannelState,
+    cycle: u32,
+)
+    requires end { IsEnd (length parts.old) channel_state.old.receiver }
     requires injecting { AreInjecting parts.old injecting.old }
     ensures injecting { AreInjecting parts.new injecting.new }
-    ensures turn { (parts.new, lane.new) ≡ pulled cycle parts.old lane.old }
+    ensures turn { (parts.new, channel_state.new) ≡ pulled cycle parts.old channel_state.old }
 {
-    if lane.taken < lane.landed && lane.is_open(cycle) {
-        let pull = lane.pull.min(lane.landed - lane.taken);
-        let part = &mut parts[lane.receiver.ni.0 as usize];
-        lane.taken += draw(part, lane.receiver.queue, pull);
-        injecting.tell(part, lane.receiver.ni.0 as usize, lane.receiver.queue);
+    if channel_state.taken < channel_state.landed && channel_state.is_open(cycle) {
+        let pull = channel_state
+            .pull
+            .min(channel_state.landed - channel_state.taken);
+        let part = &mut parts[channel_state.receiver.ni.0 as usize];
+        channel_state.taken += dequeue(part, channel_state.receiver.queue, pull);
+        injecting.tell(
+            part,
+            channel_state.receiver.ni.0 as usize,
+            channel_state.receiver.queue,
+        );
     }
 }
 
 // Marks a channel no more where it is idle.
-pub(crate) fn settle(busy: &mut Marks, lanes: &[Lane], number: usize)
-    requires number { number < length lanes.now }
-    requires marked { AreMarked IsIdle busy.old lanes.now }
-    ensures { AreMarked IsIdle busy.new lanes.now }
+pub(crate) fn mark_idle(busy: &mut Marks, channel_states: &[ChannelState], number: usize)
+    requires number { number < length channel_states.now }
+    requires marked { AreMarked IsChannelIdle busy.old channel_states.now }
+    ensures { AreMarked IsChannelIdle busy.new channel_states.now }
 {
-    let lane = &lanes[number];
-    if lane.handed <= lane.landed && lane.landed <= lane.taken && lane.accepted <= lane.handed {
+    let channel_state = &channel_states[number];
+    if channel_state.enqueued <= channel_state.landed
+        && channel_state.landed <= channel_state.taken
+        && channel_state.accepted <= channel_state.enqueued
+    {
         busy.unmark(number);
     }
 }
 
 // Marks a channel no more where its receiver takes nothing.
-pub(crate) fn rest(taking: &mut Marks, lanes: &[Lane], number: usize)
-    requires number { number < length lanes.now }
-    requires marked { AreMarked TakesNothing taking.old lanes.now }
-    ensures { AreMarked TakesNothing taking.new lanes.now }
+pub(crate) fn rest(taking: &mut Marks, channel_states: &[ChannelState], number: usize)
+    requires number { number < length channel_states.now }
+    requires marked { AreMarked TakesNothing taking.old channel_states.now }
+    ensures { AreMarked TakesNothing taking.new channel_states.now }
 {
-    let lane = &lanes[number];
-    if lane.landed <= lane.taken || lane.pull == 0 {
+    let channel_state = &channel_states[number];
+    if channel_state.landed <= channel_state.taken || channel_state.pull == 0 {
         taking.unmark(number);
     }
 }

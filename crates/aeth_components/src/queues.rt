@@ -5,16 +5,16 @@ ghost use Rattle.aeth_ni.specs.Interface.{changed, queue_at};
 ghost use Rattle.aeth_ni.specs.Limits.{queues_of_interface};
 ghost use Rattle.aeth_components.specs.Changes.{event_done};
 ghost use Rattle.aeth_components.specs.Events.{Suits};
-ghost use Rattle.aeth_components.specs.Frames.{InterfaceFrame};
-ghost use Rattle.aeth_components.specs.Queues.{draws, drawn, filled, fits, words_for};
-ghost use Rattle.aeth_components.specs.Handing.{room_left};
+ghost use Rattle.aeth_components.specs.Wirings.{InterfaceWiring};
+ghost use Rattle.aeth_components.specs.Queues.{dequeues, dequeued, filled, fits, words_for};
+ghost use Rattle.aeth_components.specs.Enqueuing.{room_left};
 
 use crate::event::Event;
 use aeth_ni::Ni;
 
 // Does an event.
 pub(crate) fn meet(ni: &mut Ni, event: &Event)
-    requires { Suits event.now (InterfaceFrame ni.old.number ni.old.leaving ni.old.entering
+    requires { Suits event.now (InterfaceWiring ni.old.number ni.old.leaving ni.old.entering
         (length ni.old.entries) (length ni.old.queues)) }
     ensures { ni.new ≡ event_done event.now ni.old }
 {
@@ -26,7 +26,7 @@ pub(crate) fn meet(ni: &mut Ni, event: &Event)
 }
 
 // Hands words to a source queue until eight wait there or none is left, and gives how many.
-pub(crate) fn hand(ni: &mut Ni, queue: u8, words: &[u32]) -> u32
+pub(crate) fn enqueue(ni: &mut Ni, queue: u8, words: &[u32]) -> u32
     requires queue { queue < queues_of_interface }
     requires few { length words.now < 2 ^ 32 }
     ensures count { result ≡ fits words.now (queue_at ni.old.queues queue) }
@@ -45,11 +45,11 @@ pub(crate) fn hand(ni: &mut Ni, queue: u8, words: &[u32]) -> u32
 }
 
 // Takes words out of a receive queue, at most so many, and gives how many.
-pub(crate) fn draw(ni: &mut Ni, queue: u8, pull: u32) -> u32
+pub(crate) fn dequeue(ni: &mut Ni, queue: u8, pull: u32) -> u32
     requires { queue < queues_of_interface }
-    ensures count { result ≡ draws pull (queue_at ni.old.queues queue) }
+    ensures count { result ≡ dequeues pull (queue_at ni.old.queues queue) }
     ensures within { result ≤ pull }
-    ensures ni { ni.new ≡ changed queue (drawn pull) ni.old }
+    ensures ni { ni.new ≡ changed queue (dequeued pull) ni.old }
 {
     let _ = ni.last();
     for count in 0..pull {

@@ -4,9 +4,9 @@ ghost use Rattle.std.specs.Prelude.{◌≡◌, ◌<◌, ◌==◌, ◌^◌, if◌
 ghost use Rattle.std.specs.Prelude.{replicate, slice_get, slice_index, slice_set};
 ghost use Rattle.aeth_clocked.specs.Wires.{flit_on};
 ghost use Rattle.aeth_components.specs.Ends.{AreEnds};
-ghost use Rattle.aeth_components.specs.Frames.{IsWired, frame_of};
+ghost use Rattle.aeth_components.specs.Wirings.{IsWired, wiring_of};
 ghost use Rattle.aeth_components.specs.Passing.{forwarded_from, way_of};
-ghost use Rattle.aeth_components.specs.Turns.{flits_on};
+ghost use Rattle.aeth_components.specs.FlitsOnWires.{flits_on};
 ghost use Rattle.aeth_router.specs.Onward.{CameFrom, Nothing, arrival_at};
 
 use crate::ends::Ends;
@@ -40,8 +40,8 @@ pub(crate) fn set(parts: &mut [Part], place: usize, part: Part)
 
 // Notes how many flits wires have, and what goes on of them alike in every cycle.
 pub(crate) fn pass_on(parts: &[Part], turns: &mut Turns, wires: &Wires, onward: Onward)
-    requires wired { IsWired (map frame_of parts.now) (length wires.now) }
-    requires ends { AreEnds (map frame_of parts.now) (length wires.now) turns.old.ends }
+    requires wired { IsWired (map wiring_of parts.now) (length wires.now) }
+    requires ends { AreEnds (map wiring_of parts.now) (length wires.now) turns.old.ends }
     requires onward { onward ≡ replicate (length wires.now) Nothing }
     ensures turns { turns.new ≡ record turns.old {
       onward = turns.new.onward;
@@ -59,8 +59,8 @@ pub(crate) fn pass_on(parts: &[Part], turns: &mut Turns, wires: &Wires, onward: 
 
 // Passes on the flits of wires that go on alike in every cycle, and gives how many flits there are.
 fn forward(parts: &[Part], ends: &Ends, wires: &Wires, onward: &mut Onward) -> u32
-    requires wired { IsWired (map frame_of parts.now) (length wires.now) }
-    requires ends { AreEnds (map frame_of parts.now) (length wires.now) ends.now }
+    requires wired { IsWired (map wiring_of parts.now) (length wires.now) }
+    requires ends { AreEnds (map wiring_of parts.now) (length wires.now) ends.now }
     requires onward { onward.old ≡ replicate (length wires.now) Nothing }
     ensures count { result ≡ flits_on wires.now }
     ensures size { length onward.new ≡ length wires.now }

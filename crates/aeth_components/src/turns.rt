@@ -2,7 +2,7 @@
 
 ghost use Rattle.std.specs.Prelude.{◌≡◌, ℕ, IfOk, List, None, map, replicate};
 ghost use Rattle.aeth_chip.specs.Wires.{wires_of};
-ghost use Rattle.aeth_components.specs.Frames.{frame_of};
+ghost use Rattle.aeth_components.specs.Wirings.{wiring_of};
 ghost use Rattle.aeth_components.specs.Injecting.{AreInjecting};
 ghost use Rattle.aeth_components.specs.Making.{new_parts};
 ghost use Rattle.aeth_components.specs.Passing.{way_of};
@@ -43,7 +43,8 @@ impl Turns {
     ) -> Result<Turns, NoMemory>
         ensures ready { IfOk result (λ turns. (rooms : List ℕ)
             → parts.now ≡ new_parts chip.now kind rooms → AreReady
-            (map frame_of (new_parts chip.now kind rooms)) (map way_of (new_parts chip.now kind rooms))
+            (map wiring_of (new_parts chip.now kind rooms))
+            (map way_of (new_parts chip.now kind rooms))
             (replicate (wires_of chip.now.links) None) turns) }
         ensures injecting { IfOk result (λ turns. (rooms : List ℕ) → AreInjecting
             (new_parts chip.now kind rooms) turns.injecting) }

@@ -2,8 +2,8 @@
 // a table up.
 ghost use Rattle.std.specs.Prelude.{◌≡◌, ◌≤◌, ◌<◌, ◌+◌, Some, length, slice_get};
 ghost use Rattle.aeth_base.specs.Limits.{max_cycles};
-ghost use Rattle.aeth_components.specs.Components.{frames_of};
-ghost use Rattle.aeth_components.specs.Frames.{frame_of};
+ghost use Rattle.aeth_components.specs.Components.{wirings_of};
+ghost use Rattle.aeth_components.specs.Wirings.{wiring_of};
 ghost use Rattle.aeth_components.specs.Making.{made_router};
 ghost use Rattle.aeth_components.specs.declared.making.RouterKind.TheVariants.{ByHeader};
 
@@ -27,7 +27,7 @@ struct Case {
 fn play(pair: &mut Components, order: &Order, from: u32, to: u32)
     requires order { length order.now ≡ length pair.old.parts }
     requires few { to ≤ max_cycles }
-    ensures { frames_of pair.new ≡ frames_of pair.old }
+    ensures { wirings_of pair.new ≡ wirings_of pair.old }
 {
     for cycle in from..to {
         pair.step(order, cycle, &[]);
@@ -37,7 +37,7 @@ fn play(pair: &mut Components, order: &Order, from: u32, to: u32)
 // The pair goes through cycles, unless there is no memory for an order.
 fn played(alloc: Global, pair: &mut Components, first: u32, from: u32, to: u32) -> bool
     requires { to ≤ max_cycles }
-    ensures { frames_of pair.new ≡ frames_of pair.old }
+    ensures { wirings_of pair.new ≡ wirings_of pair.old }
 {
     let Ok(order) = Order::rotation(alloc, 4, first) else {
         return false;
@@ -52,8 +52,8 @@ fn played(alloc: Global, pair: &mut Components, first: u32, from: u32, to: u32) 
 // A fresh router takes the place of the router of a number, and what that one holds is lost.
 fn put_fresh(alloc: Global, chip: &Chip, pair: &mut Components, number: u32, by_table: bool) -> bool
     requires few { number < 2 }
-    requires frame { slice_get (frames_of pair.old) (2 + number)
-        ≡ Some (frame_of (made_router chip.now ByHeader number)) }
+    requires wiring { slice_get (wirings_of pair.old) (2 + number)
+        ≡ Some (wiring_of (made_router chip.now ByHeader number)) }
 {
     match fresh_router(alloc, chip, number, by_table) {
         Some(router) => pair.replace(alloc, 2 + number as usize, router).is_ok(),
@@ -63,10 +63,10 @@ fn put_fresh(alloc: Global, chip: &Chip, pair: &mut Components, number: u32, by_
 
 // So it does where one is to be replaced.
 fn put_where(alloc: Global, chip: &Chip, pair: &mut Components, case: Case) -> bool
-    requires first { slice_get (frames_of pair.old) 2
-        ≡ Some (frame_of (made_router chip.now ByHeader 0)) }
-    requires second { slice_get (frames_of pair.old) 3
-        ≡ Some (frame_of (made_router chip.now ByHeader 1)) }
+    requires first { slice_get (wirings_of pair.old) 2
+        ≡ Some (wiring_of (made_router chip.now ByHeader 0)) }
+    requires second { slice_get (wirings_of pair.old) 3
+        ≡ Some (wiring_of (made_router chip.now ByHeader 1)) }
 {
     match case.lost {
         None => true,
@@ -78,10 +78,10 @@ fn put_where(alloc: Global, chip: &Chip, pair: &mut Components, case: Case) -> b
 // 20 cycles. Before cycle 5 two flits are under way: the first router holds the one that goes forth, and the second the
 // one that goes back. A fresh router takes the place of one of them, or of none.
 fn carry(alloc: Global, chip: &Chip, pair: &mut Components, case: Case) -> bool
-    requires first { slice_get (frames_of pair.old) 2
-        ≡ Some (frame_of (made_router chip.now ByHeader 0)) }
-    requires second { slice_get (frames_of pair.old) 3
-        ≡ Some (frame_of (made_router chip.now ByHeader 1)) }
+    requires first { slice_get (wirings_of pair.old) 2
+        ≡ Some (wiring_of (made_router chip.now ByHeader 0)) }
+    requires second { slice_get (wirings_of pair.old) 3
+        ≡ Some (wiring_of (made_router chip.now ByHeader 1)) }
 {
     if !played(alloc, pair, case.first, 0, 5) || !put_where(alloc, chip, pair, case) {
         return false;
@@ -111,10 +111,10 @@ fn log_of(pair: &Components) -> Option<Log> {
 }
 
 fn carried(alloc: Global, chip: &Chip, pair: &mut Components, case: Case) -> Option<Log>
-    requires first { slice_get (frames_of pair.old) 2
-        ≡ Some (frame_of (made_router chip.now ByHeader 0)) }
-    requires second { slice_get (frames_of pair.old) 3
-        ≡ Some (frame_of (made_router chip.now ByHeader 1)) }
+    requires first { slice_get (wirings_of pair.old) 2
+        ≡ Some (wiring_of (made_router chip.now ByHeader 0)) }
+    requires second { slice_get (wirings_of pair.old) 3
+        ≡ Some (wiring_of (made_router chip.now ByHeader 1)) }
 {
     if carry(alloc, chip, pair, case) {
         log_of(pair)

@@ -1,8 +1,8 @@
 // Two routers that send to each other, with an interface at each, and a channel either way.
 ghost use Rattle.std.specs.Prelude.{◌≡◌, ◌*◌, All, IfSome, IsTrue, Some, length, map, slice_get};
-ghost use Rattle.aeth_components.specs.Components.{frames_of};
+ghost use Rattle.aeth_components.specs.Components.{wirings_of};
 ghost use Rattle.aeth_components.specs.Events.{IsDoable};
-ghost use Rattle.aeth_components.specs.Frames.{RouterFrame, frame_of};
+ghost use Rattle.aeth_components.specs.Wirings.{RouterWiring, wiring_of};
 ghost use Rattle.aeth_components.specs.Making.{made_router, new_parts};
 ghost use Rattle.aeth_components.specs.declared.making.RouterKind.TheVariants.{ByHeader, ByTable};
 ghost use Rattle.aeth_ni.specs.Limits.{queues_of_interface};
@@ -11,7 +11,7 @@ ghost use Rattle.aeth_router.specs.TableRouter.{new_table_router};
 
 use aeth_base::{LinkId, NiId, RouterId};
 use aeth_chip::Chip;
-use aeth_components::{ChannelEnd, Components, Event, Lane, RouterKind};
+use aeth_components::{ChannelEnd, ChannelState, Components, Event, RouterKind};
 use aeth_ni::{QUEUES_OF_INTERFACE, Write};
 use aeth_router::{Part, Router, RouterRow, TableRouter};
 use std::alloc::Global;
@@ -32,7 +32,7 @@ const RECEIVER: ChannelEnd = ChannelEnd {
 };
 
 // A session of five words, from cycle 1 on.
-const FORTH: Lane = Lane {
+const FORTH: ChannelState = ChannelState {
     sender: SENDER,
     receiver: RECEIVER,
     go: 1,
@@ -40,13 +40,13 @@ const FORTH: Lane = Lane {
     first: 0,
     accepted: 5,
     pull: 2,
-    handed: 0,
+    enqueued: 0,
     landed: 0,
     taken: 0,
 };
 
 // One of three words, the other way.
-const BACK: Lane = Lane {
+const BACK: ChannelState = ChannelState {
     sender: RECEIVER,
     receiver: SENDER,
     first: 5,
@@ -156,9 +156,9 @@ fn made(alloc: Global, chip: &Chip, kind: RouterKind, rooms: &[u32]) -> Option<C
     requires few { length chip.now.nis ≡ 2 }
     ensures { IfSome result (λ pair. pair.parts ≡ new_parts chip.now kind rooms.now) }
 {
-    let lanes = [FORTH, BACK].to_vec(alloc).ok()?;
+    let channel_states = [FORTH, BACK].to_vec(alloc).ok()?;
     let words = [100, 101, 102, 103, 104, 105, 106, 107].to_vec(alloc).ok()?;
-    Components::new(alloc, chip, kind, rooms, lanes, words).ok()
+    Components::new(alloc, chip, kind, rooms, channel_states, words).ok()
 }
 
 // Rows enter the tables of routers that have none yet, if they can.
@@ -170,7 +170,7 @@ fn enter(
     rows: &[RouterRow],
 ) -> bool
     requires { pair.old.parts ≡ new_parts chip.now ByTable rooms.now }
-    ensures { frames_of pair.new ≡ frames_of pair.old }
+    ensures { wirings_of pair.new ≡ wirings_of pair.old }
 {
     if !do_fit(alloc, chip, rows) {
         return false;
@@ -184,7 +184,7 @@ fn routed(alloc: Global, chip: &Chip, by_table: bool, rooms: &[u32]) -> Option<C
     requires rooms { length rooms.now ≡ queues_of_interface * length chip.now.nis }
     requires few { length chip.now.nis ≡ 2 }
     ensures { IfSome result (λ pair.
-        frames_of pair ≡ map frame_of (new_parts chip.now ByHeader rooms.now)) }
+        wirings_of pair ≡ map wiring_of (new_parts chip.now ByHeader rooms.now)) }
 {
     if !by_table {
         return made(alloc, chip, RouterKind::ByHeader, rooms);
@@ -199,8 +199,8 @@ fn routed(alloc: Global, chip: &Chip, by_table: bool, rooms: &[u32]) -> Option<C
 
 // Events are done before the first cycle.
 fn write(pair: &mut Components, events: &[Event])
-    requires { All (IsDoable (frames_of pair.old)) events.now }
-    ensures { frames_of pair.new ≡ frames_of pair.old }
+    requires { All (IsDoable (wirings_of pair.old)) events.now }
+    ensures { wirings_of pair.new ≡ wirings_of pair.old }
 {
     pair.prepare(events);
 }
@@ -211,9 +211,9 @@ pub fn pair_of(alloc: Global, chip: &Chip, by_table: bool) -> Option<Components>
     requires routers { length chip.now.routers ≡ 2 }
     requires slots { chip.now.slots ≡ 8 }
     ensures first { IfSome result (λ pair.
-        slice_get (frames_of pair) 2 ≡ Some (frame_of (made_router chip.now ByHeader 0))) }
+        slice_get (wirings_of pair) 2 ≡ Some (wiring_of (made_router chip.now ByHeader 0))) }
     ensures second { IfSome result (λ pair.
-        slice_get (frames_of pair) 3 ≡ Some (frame_of (made_router chip.now ByHeader 1))) }
+        slice_get (wirings_of pair) 3 ≡ Some (wiring_of (made_router chip.now ByHeader 1))) }
 {
     let rooms = [9; 2 * QUEUES_OF_INTERFACE];
     let mut pair = routed(alloc, chip, by_table, &rooms)?;
@@ -223,8 +223,8 @@ pub fn pair_of(alloc: Global, chip: &Chip, by_table: bool) -> Option<Components>
 
 // The router of a number with rows in its table, if they fit.
 fn table_router(alloc: Global, chip: &Chip, number: u32, rows: &[RouterRow]) -> Option<TableRouter>
-    ensures { IfSome result (λ router. RouterFrame router.incoming router.outgoing
-        ≡ frame_of (made_router chip.now ByHeader number)) }
+    ensures { IfSome result (λ router. RouterWiring router.incoming router.outgoing
+        ≡ wiring_of (made_router chip.now ByHeader number)) }
 {
     if !do_fit(alloc, chip, rows) {
         return None;
@@ -238,8 +238,8 @@ fn table_router(alloc: Global, chip: &Chip, number: u32, rows: &[RouterRow]) -> 
 
 // The router of a number as it is at first: it reads headers, or has the rows in its table.
 pub fn fresh_router(alloc: Global, chip: &Chip, number: u32, by_table: bool) -> Option<Part>
-    ensures { IfSome result (λ router. frame_of router
-        ≡ frame_of (made_router chip.now ByHeader number)) }
+    ensures { IfSome result (λ router. wiring_of router
+        ≡ wiring_of (made_router chip.now ByHeader number)) }
 {
     if by_table {
         return Some(Part::TableRouter(table_router(alloc, chip, number, &ROWS)?));

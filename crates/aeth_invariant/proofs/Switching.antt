@@ -1,396 +1,340 @@
--- Events that are those of a fabric's sessions make what the law on networks says.
-use Rattle.std.proofs.Common.{◌≡◌, ◌<◌, ◌∙◌, ◌⊎◌, ℕ, refl, sym, ap, arith, inl, inr, Bool, true}
-use Rattle.std.proofs.Common.{false, ◌&&◌, List, Option, Some, None, map, slice_get, ◌==◌, eq-eqb}
-use Rattle.std.proofs.Common.{eqb-true}
-use Rattle.std.proofs.lemmas.Bool.{and_from, and_parts}
-use Rattle.aeth_base.specs.declared.ids.NiId.{NiId}
-use Rattle.aeth_clocked.specs.declared.flit.Flit.{Flit}
-use Rattle.aeth_ni.specs.Queue.{QueueState, finished, stopped, with_route, without_route}
-use Rattle.aeth_ni.specs.declared.queue.Route.{Route}
-use Rattle.aeth_ni.specs.declared.write.Write.TheVariants.{ClearSlot, ClearRoute, SetRoute, SetSlot}
-use Rattle.aeth_router.specs.declared.part.Part.{Part}
-use Rattle.aeth_components.specs.Changes.{switched}
-use Rattle.aeth_components.specs.Frames.{frame_of}
-use Rattle.aeth_components.specs.Switching.{SlotWrite, SwitchesAlone, Touches, Writes, WritesAlone}
-use Rattle.aeth_components.specs.Switching.{event_end, queue_done, slot_write}
-use Rattle.aeth_components.specs.View.{HasQueue, HasSlot}
-use Rattle.aeth_components.specs.declared.event.Event.{Event}
-use Rattle.aeth_components.specs.declared.event.Event.TheVariants.{Change, Finish, Halt}
-use Rattle.aeth_components.specs.declared.lane.ChannelEnd.{ChannelEnd}
-use Rattle.aeth_refinement.specs.Components.{Net, queue_of}
-use Rattle.aeth_refinement.specs.Fabric.{Fabric, has_slot}
-use Rattle.aeth_refinement.specs.Switches.{HasEvent, IsEntryAt, IsSetNow, Switched, finish_of}
-use Rattle.aeth_refinement.specs.Switches.{freed_of, halt_of, set_of}
-use Rattle.aeth_invariant.proofs.Serving.{found-or-none}
-use Rattle.aeth_invariant.specs.{Events.AreEvents, Events.IsEventOf, Events.Occurs, Events.OnQueue}
-use Rattle.aeth_invariant.specs.{Events.ni_of, Events.queue_end, Framed.IsFramed, View.net_of}
+-- The halts, finishes and writes of a cycle lead from the tables of the cycle before to its own.
+use Rattle.std.proofs.Common.{◌≡◌, ◌≢◌, ◌≤◌, ◌<◌, ◌∙◌, ◌⊎◌, ℕ, suc, ◌+◌, ◌-◌, true, false, [], Some}
+use Rattle.std.proofs.Common.{refl, sym, ap, arith, inl, inr}
+use Rattle.std.proofs.lemmas.Bool.{cases_eq}
+use Rattle.aeth_ni.specs.{Limits.waiting_words, Queue.QueueState}
+use Rattle.aeth_server.specs.PrivateServer.{arrived, credited, landed, returned, sent, taken}
+use Rattle.aeth_server.proofs.SessionEnds.{idle-before}
+use Rattle.aeth_invariant.specs.WellRouted.{HasEntry, AreWellRouted}
+use Rattle.aeth_invariant.specs.Carried.{words_from}
+use Rattle.aeth_invariant.specs.Switches.{HasEvent, Switched, finish_of, route_of}
+use Rattle.aeth_invariant.specs.Components.{Net, queue_of}
+use Rattle.aeth_invariant.specs.RoutedSessions.{RoutedSessions, Owns, flow_at, has_slot, server_at}
+use Rattle.aeth_invariant.specs.Standing.{HasCounter, IsEntryOf, MaySend, Stands}
+use Rattle.aeth_invariant.proofs.Owning.{exact-same}
+use Rattle.aeth_invariant.proofs.Unique.{known-back, paths-of}
+use Rattle.aeth_invariant.proofs.Words.{same_words}
+use Rattle.aeth_invariant.proofs.Events.{just-finished, lasts, no-finish, no-freed, no-set}
+use Rattle.aeth_invariant.proofs.Events.{no-set-route, no-stop, own-since, same-queue}
 
--- Whether an event changes a queue, and whether it writes a slot.
-abbrev is_end : ℕ → ℕ → Option ChannelEnd → Bool
-is_end ni queue None = false
-is_end ni queue (Some end) = (end.ni.0 == ni) && (end.queue == queue)
+module _ (sessions : RoutedSessions) (ok : AreWellRouted sessions) (t : ℕ) (old new : Net)
+    (at : Stands sessions t t old)
+    (change : Switched sessions (suc t) old new) where
+  -- What a finish leaves.
+  finished-waiting : (c : ℕ) → HasEvent sessions (finish_of sessions) (suc t) c
+      → (queue_of sessions new c).waiting ≡ []
+  finished-waiting c event =
+      ap (λ (q : QueueState). q.waiting) (sym (same-queue sessions new event.number c event.same))
+      ∙ change.finish_waiting event.number event.known event.falls
 
-abbrev touches : ℕ → ℕ → Event → Bool
-touches ni queue event = is_end ni queue (event_end event)
+  finished-received : (c : ℕ) → HasEvent sessions (finish_of sessions) (suc t) c
+      → (queue_of sessions new c).received ≡ []
+  finished-received c event =
+      ap (λ (q : QueueState). q.received) (sym (same-queue sessions new event.number c event.same))
+      ∙ change.finish_received event.number event.known event.falls
 
-abbrev is_slot : ℕ → ℕ → Option SlotWrite → Bool
-is_slot ni slot None = false
-is_slot ni slot (Some write) = (write.ni.0 == ni) && (write.slot == slot)
+  finished-owed : (c : ℕ) → HasEvent sessions (finish_of sessions) (suc t) c
+      → (queue_of sessions new c).owed ≡ 0
+  finished-owed c event =
+      ap (λ (q : QueueState). q.owed) (sym (same-queue sessions new event.number c event.same))
+      ∙ change.finish_owed event.number event.known event.falls
 
-abbrev writes : ℕ → ℕ → Event → Bool
-writes ni slot event = is_slot ni slot (slot_write event)
+  -- A session that gets its queue now has done nothing yet.
+  record IsFresh (c : ℕ) : Type 0 where
+    enqueued : new.enqueued c ≡ 0
+    early : t ≤ (server_at sessions c).go
+    finished : HasEvent sessions (finish_of sessions) (suc t) c
 
-touches-is : (ni queue : ℕ) (event : Event) → touches ni queue event ≡ true
-    → Touches event ni queue
-touches-is ni queue event is =
-    let cases : (end : Option ChannelEnd) → event_end event ≡ end → is_end ni queue end ≡ true
-    → Touches event ni queue = elim [
-      | None ↦ λ at no. absurd (cc no)
-      | Some end ↦ λ at both.
-          let parts = and_parts (end.ni.0 == ni) (end.queue == queue) both in
-          record {
-            end = end;
-            is = at;
-            at_ni = eqb-true end.ni.0 ni parts.0;
-            at_queue = eqb-true end.queue queue parts.1;
-          }
-    ] in
-    cases (event_end event) refl is
-
-is-touches : (ni queue : ℕ) (event : Event) → Touches event ni queue
-    → touches ni queue event ≡ true
-is-touches ni queue event there =
-    ap (is_end ni queue) there.is
-    ∙ and_from (there.end.ni.0 == ni) (there.end.queue == queue)
-    (eq-eqb there.end.ni.0 ni there.at_ni) (eq-eqb there.end.queue queue there.at_queue)
-
-writes-is : (ni slot : ℕ) (event : Event) → writes ni slot event ≡ true → Writes event ni slot
-writes-is ni slot event is =
-    let cases : (write : Option SlotWrite) → slot_write event ≡ write
-    → is_slot ni slot write ≡ true → Writes event ni slot = elim [
-      | None ↦ λ at no. absurd (cc no)
-      | Some write ↦ λ at both.
-          let parts = and_parts (write.ni.0 == ni) (write.slot == slot) both in
-          record {
-            write = write;
-            is = at;
-            at_ni = eqb-true write.ni.0 ni parts.0;
-            at_slot = eqb-true write.slot slot parts.1;
-          }
-    ] in
-    cases (slot_write event) refl is
-
-is-writes : (ni slot : ℕ) (event : Event) → Writes event ni slot → writes ni slot event ≡ true
-is-writes ni slot event there =
-    ap (is_slot ni slot) there.is
-    ∙ and_from (there.write.ni.0 == ni) (there.write.slot == slot)
-    (eq-eqb there.write.ni.0 ni there.at_ni) (eq-eqb there.write.slot slot there.at_slot)
-
--- What becomes of a session's queue.
-pub data Becomes (fabric : Fabric) (e c : ℕ) (old new : QueueState) : Type 0 where
-  Stays : new ≡ old → Becomes fabric e c old new
-  IsHalted : HasEvent fabric (halt_of fabric) e c → new ≡ stopped old → Becomes fabric e c old new
-  IsFinished : HasEvent fabric (finish_of fabric) e c → new ≡ finished old
-      → Becomes fabric e c old new
-  IsFreed : HasEvent fabric (freed_of fabric) e c → new ≡ without_route old
-      → Becomes fabric e c old new
-  IsSet : HasEvent fabric (set_of fabric) e c → (route : Route) (credits : ℕ)
-      → new ≡ with_route route credits old → Becomes fabric e c old new
-
-module _ (fabric : Fabric) (e : ℕ) (events : List Event) (parts : List Part) (handed : ℕ → ℕ)
-    (wires : List (Option Flit)) (count : ℕ) (framed : IsFramed fabric (map frame_of parts) count)
-    (are : AreEvents fabric e events) (alone : SwitchesAlone events parts)
-    (apart : WritesAlone events parts) where
-  abbrev old : Net
-  old = net_of handed parts wires
-
-  abbrev new : Net
-  new = net_of handed (switched events parts) wires
-
-  abbrev at_queue : ℕ → Event → Bool
-  at_queue c = touches (fabric.passage c).ni (fabric.passage c).queue
-
-  -- An event at a session's queue is done there.
-  done-at : (c i : ℕ) (event : Event) (end : ChannelEnd) → c < fabric.count
-      → slice_get events i ≡ Some event → event_end event ≡ Some end
-      → end.ni.0 ≡ (fabric.passage c).ni → end.queue ≡ (fabric.passage c).queue
-      → queue_of fabric new c ≡ queue_done event (queue_of fabric old c)
-  done-at c i event end h at is ni queue =
-      let has = framed.session c h in
-      let within = has.within in
-      let face : HasQueue (map frame_of parts) end = record {
-        number = has.number;
-        leaving = has.leaving;
-        entering = has.entering;
-        slots = has.slots;
-        queues = has.queues;
-        face = ap (slice_get (map frame_of parts)) ni ∙ has.face;
-        within = omega (arith, within, queue);
-      } in
-      let own = alone.own i event end at is face (λ j other there touch.
-      are.queue_once j i end.ni.0 end.queue other event there at touch
-      (record { end = end; is = is; at_ni = refl; at_queue = refl })) in
-      sym (ap (λ n. new.queue n end.queue) ni ∙ ap (new.queue (fabric.passage c).ni) queue)
-      ∙ own
-      ∙ ap (queue_done event)
-      (ap (λ n. old.queue n end.queue) ni ∙ ap (old.queue (fabric.passage c).ni) queue)
-
-  -- One that is to occur is done.
-  done-own : (c : ℕ) (event : Event) → c < fabric.count → Occurs events event
-      → event_end event ≡ Some (queue_end fabric c)
-      → queue_of fabric new c ≡ queue_done event (queue_of fabric old c)
-  done-own c event h occurs is =
-      done-at c occurs.0 event (queue_end fabric c) h occurs.1 is refl refl
-
-  -- A session's event at the queue of another.
-  on-queue : (cycle : ℕ → ℕ) (c : ℕ) (ni : NiId) (queue : ℕ) → OnQueue fabric cycle e ni queue
-      → ni.0 ≡ (fabric.passage c).ni → queue ≡ (fabric.passage c).queue
-      → HasEvent fabric cycle e c
-  on-queue cycle c ni queue on at_ni at_queue = record {
-    number = on.session;
-    known = on.known;
-    falls = on.falls;
-    same = record { ni = on.ni_is ∙ at_ni; queue = on.queue_is ∙ at_queue };
-  }
-
-  becomes-by : (c : ℕ) → c < fabric.count → (i : ℕ) (event : Event)
-      → slice_get events i ≡ Some event → IsEventOf fabric e event → (end : ChannelEnd)
-      → event_end event ≡ Some end → end.ni.0 ≡ (fabric.passage c).ni
-      → end.queue ≡ (fabric.passage c).queue
-      → Becomes fabric e c (queue_of fabric old c) (queue_of fabric new c)
-  becomes-by c h i (Halt own) at of end is ni queue =
-      let same : own ≡ end = cc is in
-      IsHalted (on-queue (halt_of fabric) c own.ni own.queue of
-      (ap (λ (x : ChannelEnd). x.ni.0) same ∙ ni)
-      (ap (λ (x : ChannelEnd). x.queue) same ∙ queue))
-      (done-at c i (Halt own) end h at is ni queue)
-  becomes-by c h i (Finish own) at of end is ni queue =
-      let same : own ≡ end = cc is in
-      IsFinished (on-queue (finish_of fabric) c own.ni own.queue of
-      (ap (λ (x : ChannelEnd). x.ni.0) same ∙ ni)
-      (ap (λ (x : ChannelEnd). x.queue) same ∙ queue))
-      (done-at c i (Finish own) end h at is ni queue)
-  becomes-by c h i (Change (ClearSlot to slot)) at of end is ni queue = absurd (cc is)
-  becomes-by c h i (Change (ClearRoute to number)) at of end is ni queue =
-      let own : ChannelEnd = record { ni = to; queue = number } in
-      let same : own ≡ end = cc is in
-      IsFreed (on-queue (freed_of fabric) c to number of
-      (ap (λ (x : ChannelEnd). x.ni.0) same ∙ ni)
-      (ap (λ (x : ChannelEnd). x.queue) same ∙ queue))
-      (done-at c i (Change (ClearRoute to number)) end h at is ni queue)
-  becomes-by c h i (Change (SetRoute to number route remote credits)) at of end is ni queue =
-      let own : ChannelEnd = record { ni = to; queue = number } in
-      let same : own ≡ end = cc is in
-      IsSet (on-queue (set_of fabric) c to number of.on
-      (ap (λ (x : ChannelEnd). x.ni.0) same ∙ ni)
-      (ap (λ (x : ChannelEnd). x.queue) same ∙ queue))
-      (record { ports = route; remote = remote }) credits
-      (done-at c i (Change (SetRoute to number route remote credits)) end h at is ni queue)
-  becomes-by c h i (Change (SetSlot to slot number)) at of end is ni queue = absurd (cc is)
-
-  pub becomes : (c : ℕ) → c < fabric.count
-      → Becomes fabric e c (queue_of fabric old c) (queue_of fabric new c)
-  becomes c h =
-      let n = (fabric.passage c).ni in
-      let q = (fabric.passage c).queue in
-      elim (found-or-none (at_queue c) events) [
-        | inr none ↦
-            Stays (alone.other n q (λ i event at touch.
-            none i event at (is-touches n q event touch)))
-        | inl found ↦
-            let there = touches-is n q found.lane found.passes in
-            becomes-by c h found.number found.lane found.at
-            (are.only found.number found.lane found.at) there.end there.is there.at_ni
-            there.at_queue
-      ]
-
-  -- What an event of another kind leaves.
-  keeps : {X : Type 0} (part : QueueState → X) (c : ℕ) → c < fabric.count
-      → (HasEvent fabric (halt_of fabric) e c → (q : QueueState) → part (stopped q) ≡ part q)
-      → (HasEvent fabric (finish_of fabric) e c → (q : QueueState) → part (finished q) ≡ part q)
-      → (HasEvent fabric (freed_of fabric) e c → (q : QueueState)
-      → part (without_route q) ≡ part q)
-      → (HasEvent fabric (set_of fabric) e c → (route : Route) (credits : ℕ) (q : QueueState)
-      → part (with_route route credits q) ≡ part q)
-      → part (queue_of fabric new c) ≡ part (queue_of fabric old c)
-  keeps part c h halts finishes frees sets =
-      let q = queue_of fabric old c in
-      elim (becomes c h) [
-        | Stays same ↦ ap part same
-        | IsHalted event is ↦ ap part is ∙ halts event q
-        | IsFinished event is ↦ ap part is ∙ finishes event q
-        | IsFreed event is ↦ ap part is ∙ frees event q
-        | IsSet event route credits is ↦ ap part is ∙ sets event route credits q
-      ]
-
-  -- Entries. A slot that is written has what its write says.
-  slot-own : (n x : ℕ) (i : ℕ) (event : Event) (write : SlotWrite) (c : ℕ) → c < fabric.count
-      → (fabric.passage c).ni ≡ n → x < fabric.size → slice_get events i ≡ Some event
-      → slot_write event ≡ Some write → write.ni.0 ≡ n → write.slot ≡ x
-      → new.entry n x ≡ write.entry
-  slot-own n x i event write c h ni small at is at_ni at_slot =
-      let has = framed.session c h in
-      let face : slice_get (map frame_of parts) write.ni.0 ≡ _ =
-      ap (slice_get (map frame_of parts)) (at_ni ∙ sym ni) ∙ has.face in
-      let size = framed.slots write.ni.0 has.number has.leaving has.entering has.slots has.queues
-      face in
-      let slot : HasSlot (map frame_of parts) write.ni.0 write.slot = record {
-        number = has.number;
-        leaving = has.leaving;
-        entering = has.entering;
-        slots = has.slots;
-        queues = has.queues;
-        face = face;
-        within = omega (arith, small, size, at_slot);
-      } in
-      sym (ap (λ m. new.entry m write.slot) at_ni ∙ ap (new.entry n) at_slot)
-      ∙ apart.own i event write at is slot (λ j other there same.
-      are.slot_once j i write.ni.0 write.slot other event there at same
-      (record { write = write; is = is; at_ni = refl; at_slot = refl }))
-
-  set-slot : (n x c : ℕ) → IsEntryAt fabric n x c → (fabric.passage c).slot_set x ≡ e
-      → new.entry n x ≡ Some (fabric.passage c).queue
-  set-slot n x c at falls =
-      let occurs = are.slots_set c x at.known at.uses falls in
-      let of = are.only occurs.0 (Change (SetSlot (ni_of fabric c) x (fabric.passage c).queue))
-      occurs.1 in
-      slot-own n x occurs.0 (Change (SetSlot (ni_of fabric c) x (fabric.passage c).queue))
-      (record { ni = ni_of fabric c; slot = x; entry = Some (fabric.passage c).queue }) c at.known
-      at.ni of.on.within occurs.1 refl at.ni refl
-
-  -- An entry that is written is that of a slot that is set or cleared now.
-  written-by : (n x queue i : ℕ) (event : Event) → slice_get events i ≡ Some event
-      → IsEventOf fabric e event → Writes event n x → new.entry n x ≡ Some queue
-      → IsSetNow fabric e n x queue
-  written-by n x queue i (Halt end) at of there is = absurd (let no = there.is in cc no)
-  written-by n x queue i (Finish end) at of there is = absurd (let no = there.is in cc no)
-  written-by n x queue i (Change (ClearSlot to slot)) at of there is =
-      let write : SlotWrite = record { ni = to; slot = slot; entry = None } in
-      let same : write ≡ there.write = let w = there.is in cc w in
-      let ni : to.0 ≡ n = ap (λ (w : SlotWrite). w.ni.0) same ∙ there.at_ni in
-      let place : slot ≡ x = ap (λ (w : SlotWrite). w.slot) same ∙ there.at_slot in
-      let small = of.within in
-      let none = slot-own n x i (Change (ClearSlot to slot)) write of.session of.at.known
-      (of.at.ni ∙ ni) (omega (arith, small, place)) at refl ni place in
-      let no : None ≡ Some queue = sym none ∙ is in
-      absurd (cc no)
-  written-by n x queue i (Change (ClearRoute to number)) at of there is =
-      absurd (let no = there.is in cc no)
-  written-by n x queue i (Change (SetRoute to number route remote credits)) at of there is =
-      absurd (let no = there.is in cc no)
-  written-by n x queue i (Change (SetSlot to slot number)) at of there is =
-      let write : SlotWrite = record { ni = to; slot = slot; entry = Some number } in
-      let same : write ≡ there.write = let w = there.is in cc w in
-      let ni : to.0 ≡ n = ap (λ (w : SlotWrite). w.ni.0) same ∙ there.at_ni in
-      let place : slot ≡ x = ap (λ (w : SlotWrite). w.slot) same ∙ there.at_slot in
-      let small = of.on.within in
-      let set = slot-own n x i (Change (SetSlot to slot number)) write of.on.session of.on.at.known
-      (of.on.at.ni ∙ ni) (omega (arith, small, place)) at refl ni place in
-      let named : Some number ≡ Some queue = sym set ∙ is in
-      let number_is : number ≡ queue = cc named in
+  fresh : (c : ℕ) → c < sessions.count → (sessions.routed_session c).since ≡ suc t → IsFresh c
+  fresh c h is =
+      let last = lasts sessions ok c h in
       record {
-        number = of.on.session;
-        at = record {
-          known = of.on.at.known;
-          uses = ap (has_slot fabric of.on.session) (sym place) ∙ of.on.at.uses;
-          ni = of.on.at.ni ∙ ni;
-        };
-        queue_is = sym of.queue_is ∙ number_is;
-        falls = ap (fabric.passage of.on.session).slot_set (sym place) ∙ of.on.falls;
+        enqueued = change.enqueued c h (omega (arith, last.since, last.set, last.finish, is))
+            ∙ at.none_enqueued c h (omega (arith, is));
+        early = omega (arith, last.since, last.go, is);
+        finished = just-finished sessions ok t c h is;
       }
 
-  from-entry : (n x queue : ℕ) → new.entry n x ≡ Some queue
-      → IsSetNow fabric e n x queue
-      ⊎ ((old.entry n x ≡ Some queue)
-      × ((c : ℕ) → IsEntryAt fabric n x c → (fabric.passage c).slot_freed x ≡ e → ⊥))
-  from-entry n x queue is = elim (found-or-none (writes n x) events) [
-    | inl found ↦
-        inl (written-by n x queue found.number found.lane found.at
-        (are.only found.number found.lane found.at) (writes-is n x found.lane found.passes) is)
-    | inr none ↦
-        let same = apart.other n x (λ i event at there.
-        none i event at (is-writes n x event there)) in
-        inr (
-          sym same ∙ is,
-          λ c at falls.
-              let occurs = are.slots_clear c x at.known at.uses falls in
-              none occurs.0 (Change (ClearSlot (ni_of fabric c) x)) occurs.1
-              (is-writes n x (Change (ClearSlot (ni_of fabric c) x)) (record {
-                write = record { ni = ni_of fabric c; slot = x; entry = None };
-                is = refl;
-                at_ni = at.ni;
-                at_slot = refl;
-              })),
-        )
+  -- Nor has the opposite one, a cycle later either.
+  record IsIdleThen (c : ℕ) : Type 0 where
+    landed : landed (server_at sessions (sessions.opposite c)) (suc t) ≡ 0
+    taken : taken (server_at sessions (sessions.opposite c)) t ≡ 0
+    credited : credited (server_at sessions (sessions.opposite c)) t ≡ 0
+
+  idle-then : (c : ℕ) → c < sessions.count → (sessions.routed_session c).since ≡ suc t
+      → IsIdleThen c
+  idle-then c h is =
+      let d = sessions.opposite c in
+      let paths = paths-of sessions ok d (known-back sessions ok c h) in
+      let last = lasts sessions ok c h in
+      let go = (ok.answered c h).go in
+      let next = idle-before (server_at sessions d) paths (suc t)
+      (omega (arith, last.since, last.go, is, go)) in
+      let now = idle-before (server_at sessions d) paths t
+      (omega (arith, last.since, last.go, is, go)) in
+      record { landed = next.landed; taken = now.taken; credited = now.credited }
+
+  -- An entry that was and stays a session's isn't touched.
+  entry-stays : (c x : ℕ) → c < sessions.count → has_slot sessions c x ≡ true
+      → (sessions.routed_session c).slot_set x ≤ t
+      → suc t < (sessions.routed_session c).slot_freed x
+      → new.entry (sessions.routed_session c).ni x ≡ old.entry (sessions.routed_session c).ni x
+  entry-stays c x h uses set freed =
+      change.kept_entry (sessions.routed_session c).ni x
+      (λ d there falls.
+      let order = (ok.ordered d there.known).slot_lasts x there.uses in
+      let one = (ok.apart d c there.known h).entry x (suc t)
+      (record {
+        uses = there.uses;
+        set = omega (arith, falls);
+        freed = omega (arith, falls, order);
+      })
+      (record { uses = uses; set = omega (arith, set); freed = freed }) there.ni in
+      let same = ap (λ n. (sessions.routed_session n).slot_set x) one in
+      omega (arith, same, falls, set))
+      (λ d there falls.
+      let order = (ok.ordered d there.known).slot_lasts x there.uses in
+      let one = (ok.apart d c there.known h).entry x t
+      (record {
+        uses = there.uses;
+        set = omega (arith, falls, order);
+        freed = omega (arith, falls);
+      })
+      (record { uses = uses; set = set; freed = omega (arith, freed) }) there.ni in
+      let same = ap (λ n. (sessions.routed_session n).slot_freed x) one in
+      omega (arith, same, falls, freed))
+
+  entries-only : (n x queue : ℕ) → new.entry n x ≡ Some queue
+      → IsEntryOf sessions (suc t) n x queue
+  entries-only n x queue is = elim (change.from_entry n x queue is) [
+    | inl now ↦
+        let order = (ok.ordered now.number now.at.known).slot_lasts x now.at.uses in
+        let falls = now.falls in
+        record {
+          number = now.number;
+          at = now.at;
+          queue_is = now.queue_is;
+          has = record {
+            uses = now.at.uses;
+            set = omega (arith, falls);
+            freed = omega (arith, falls, order);
+          };
+        }
+    | inr (was, uncleared) ↦
+        let of = at.entry_only n x queue was in
+        let set = of.has.set in
+        let freed = of.has.freed in
+        record {
+          number = of.number;
+          at = of.at;
+          queue_is = of.queue_is;
+          has = record {
+            uses = of.at.uses;
+            set = omega (arith, set);
+            freed = elim (cases_eq ((sessions.routed_session of.number).slot_freed x) (suc t)) [
+              | inl now ↦ absurd (uncleared of.number of.at now)
+              | inr other ↦ omega (arith, freed, other)
+            ];
+          };
+        }
   ]
 
-  -- One that no write names stays.
-  unwritten-by : (n x i : ℕ) (event : Event) → IsEventOf fabric e event → Writes event n x
-      → ((c : ℕ) → IsEntryAt fabric n x c → (fabric.passage c).slot_set x ≡ e → ⊥)
-      → ((c : ℕ) → IsEntryAt fabric n x c → (fabric.passage c).slot_freed x ≡ e → ⊥) → ⊥
-  unwritten-by n x i (Halt end) of there sets clears = let no = there.is in cc no
-  unwritten-by n x i (Finish end) of there sets clears = let no = there.is in cc no
-  unwritten-by n x i (Change (ClearSlot to slot)) of there sets clears =
-      let write : SlotWrite = record { ni = to; slot = slot; entry = None } in
-      let same : write ≡ there.write = let w = there.is in cc w in
-      let ni : to.0 ≡ n = ap (λ (w : SlotWrite). w.ni.0) same ∙ there.at_ni in
-      let place : slot ≡ x = ap (λ (w : SlotWrite). w.slot) same ∙ there.at_slot in
-      clears of.session (record {
-        known = of.at.known;
-        uses = ap (has_slot fabric of.session) (sym place) ∙ of.at.uses;
-        ni = of.at.ni ∙ ni;
-      }) (ap (fabric.passage of.session).slot_freed (sym place) ∙ of.falls)
-  unwritten-by n x i (Change (ClearRoute to number)) of there sets clears =
-      let no = there.is in cc no
-  unwritten-by n x i (Change (SetRoute to number route remote credits)) of there sets clears =
-      let no = there.is in cc no
-  unwritten-by n x i (Change (SetSlot to slot number)) of there sets clears =
-      let write : SlotWrite = record { ni = to; slot = slot; entry = Some number } in
-      let same : write ≡ there.write = let w = there.is in cc w in
-      let ni : to.0 ≡ n = ap (λ (w : SlotWrite). w.ni.0) same ∙ there.at_ni in
-      let place : slot ≡ x = ap (λ (w : SlotWrite). w.slot) same ∙ there.at_slot in
-      sets of.on.session (record {
-        known = of.on.at.known;
-        uses = ap (has_slot fabric of.on.session) (sym place) ∙ of.on.at.uses;
-        ni = of.on.at.ni ∙ ni;
-      }) (ap (fabric.passage of.on.session).slot_set (sym place) ∙ of.on.falls)
+  entries-all : (c x : ℕ) → c < sessions.count → HasEntry sessions c x (suc t)
+      → new.entry (sessions.routed_session c).ni x ≡ Some (sessions.routed_session c).queue
+  entries-all c x h has =
+      let set = has.set in
+      let freed = has.freed in
+      elim (cases_eq ((sessions.routed_session c).slot_set x) (suc t)) [
+        | inl now ↦
+            change.set_slot (sessions.routed_session c).ni x c
+            (record { known = h; uses = has.uses; ni = refl }) now
+        | inr other ↦
+            entry-stays c x h has.uses (omega (arith, set, other)) freed
+            ∙ at.entry_all c x h (record {
+              uses = has.uses;
+              set = omega (arith, set, other);
+              freed = omega (arith, freed);
+            })
+      ]
 
-  -- All of it.
-  pub switches : Switched fabric e old new
-  switches = record {
-    halt = λ c h falls. ap (λ (q : QueueState). q.halted)
-        (done-own c (Halt (queue_end fabric c)) h (are.halts c h falls) refl);
-    finish_waiting = λ c h falls. ap (λ (q : QueueState). q.waiting)
-        (done-own c (Finish (queue_end fabric c)) h (are.finishes c h falls) refl);
-    finish_received = λ c h falls. ap (λ (q : QueueState). q.received)
-        (done-own c (Finish (queue_end fabric c)) h (are.finishes c h falls) refl);
-    finish_owed = λ c h falls. ap (λ (q : QueueState). q.owed)
-        (done-own c (Finish (queue_end fabric c)) h (are.finishes c h falls) refl);
-    set_route = λ c h falls. ap (λ (q : QueueState). q.route)
-        (done-own c _ h (are.sets c h falls) refl);
-    set_counter = λ c h falls. ap (λ (q : QueueState). q.counter)
-        (done-own c _ h (are.sets c h falls) refl);
-    set_halted = λ c h falls. ap (λ (q : QueueState). q.halted)
-        (done-own c _ h (are.sets c h falls) refl);
-    set_slot = set-slot;
-    kept_waiting = λ c h finish. keeps (λ q. q.waiting) c h (λ event q. refl)
-        (λ event q. absurd (finish event)) (λ event q. refl) (λ event route credits q. refl);
-    kept_received = λ c h finish. keeps (λ q. q.received) c h (λ event q. refl)
-        (λ event q. absurd (finish event)) (λ event q. refl) (λ event route credits q. refl);
-    kept_owed = λ c h finish. keeps (λ q. q.owed) c h (λ event q. refl)
-        (λ event q. absurd (finish event)) (λ event q. refl) (λ event route credits q. refl);
-    kept_counter = λ c h finish set. keeps (λ q. q.counter) c h (λ event q. refl)
-        (λ event q. absurd (finish event)) (λ event q. refl)
-        (λ event route credits q. absurd (set event));
-    kept_route = λ c h set freed. keeps (λ q. q.route) c h (λ event q. refl) (λ event q. refl)
-        (λ event q. absurd (freed event)) (λ event route credits q. absurd (set event));
-    kept_halted = λ c h set halt. keeps (λ q. q.halted) c h (λ event q. absurd (halt event))
-        (λ event q. refl) (λ event q. refl) (λ event route credits q. absurd (set event));
-    kept_room = λ c h. keeps (λ q. q.room) c h (λ event q. refl) (λ event q. refl)
-        (λ event q. refl) (λ event route credits q. refl);
-    kept_entry = λ n x sets clears. apart.other n x (λ i event at there.
-        unwritten-by n x i event (are.only i event at) there sets clears);
-    from_entry = from-entry;
-    handed = λ c h inside. refl;
-    held = λ l. refl;
+  -- A running session's route was set already, or is set now.
+  record Ran (c : ℕ) : Type 0 where
+    run : MaySend sessions c t
+    set : (sessions.routed_session c).set ≤ t
+    freed : suc t < (sessions.routed_session c).freed
+    stop : (server_at sessions c).stop ≢ t
+
+  ran : (c : ℕ) → c < sessions.count → MaySend sessions c (suc t)
+      → Ran c ⊎ ((sessions.routed_session c).set ≡ suc t)
+  ran c h run =
+      let set = run.set in
+      let stop = run.stop in
+      let freed = (lasts sessions ok c h).freed in
+      elim (cases_eq (sessions.routed_session c).set (suc t)) [
+        | inl now ↦ inr now
+        | inr other ↦ inl (record {
+          run = record { set = omega (arith, set, other); stop = omega (arith, stop) };
+          set = omega (arith, set, other);
+          freed = omega (arith, stop, freed);
+          stop = λ is. absurd (omega (arith, is, stop));
+        })
+      ]
+
+  routes : (c : ℕ) → c < sessions.count → MaySend sessions c (suc t)
+      → (queue_of sessions new c).route ≡ Some (route_of (flow_at sessions c))
+  routes c h run = elim (ran c h run) [
+    | inr now ↦ change.set_route c h now
+    | inl was ↦
+        change.kept_route c h (no-set-route sessions ok t c h was.set was.freed)
+        (no-freed sessions ok t c h was.set was.freed)
+        ∙ at.route c h was.run
+  ]
+
+  runs : (c : ℕ) → c < sessions.count → MaySend sessions c (suc t)
+      → (queue_of sessions new c).halted ≡ false
+  runs c h run = elim (ran c h run) [
+    | inr now ↦ change.set_halted c h now
+    | inl was ↦
+        let set = was.set in
+        let freed = was.freed in
+        change.kept_halted c h (no-set-route sessions ok t c h set freed)
+        (no-stop sessions ok t c h (record { set = set; freed = omega (arith, freed) }) was.stop)
+        ∙ at.running c h was.run
+  ]
+
+  halts : (c : ℕ) → c < sessions.count → (server_at sessions c).stop < suc t
+      → suc t < (sessions.routed_session c).freed → (queue_of sessions new c).halted ≡ true
+  halts c h stop freed =
+      let set = (lasts sessions ok c h).set in
+      elim (cases_eq (server_at sessions c).stop t) [
+        | inl now ↦ change.halt c h (ap (λ n. suc n) now)
+        | inr other ↦
+            let before : (server_at sessions c).stop < t = omega (arith, stop, other) in
+            change.kept_halted c h (no-set-route sessions ok t c h (omega (arith, set, stop)) freed)
+            (no-stop sessions ok t c h
+            (record { set = omega (arith, set, stop); freed = omega (arith, freed) }) other)
+            ∙ at.halted c h before (omega (arith, freed))
+      ]
+
+  enqueued-low : (c : ℕ) → c < sessions.count → Owns sessions c (suc t)
+      → sent (server_at sessions c) t ≤ new.enqueued c
+  enqueued-low c h own = elim (own-since sessions ok t c own) [
+    | inl was ↦ omega (arith, at.enqueued_low c h was, change.enqueued c h own.finish)
+    | inr now ↦
+        let none = idle-before (server_at sessions c) (paths-of sessions ok c h) t
+        (fresh c h now).early in
+        omega (arith, none.sent)
+  ]
+
+  enqueued-high : (c : ℕ) → c < sessions.count → Owns sessions c (suc t)
+      → new.enqueued c ≤ sent (server_at sessions c) t + waiting_words
+  enqueued-high c h own = elim (own-since sessions ok t c own) [
+    | inl was ↦ omega (arith, at.enqueued_high c h was, change.enqueued c h own.finish)
+    | inr now ↦ omega (arith, (fresh c h now).enqueued)
+  ]
+
+  enqueued-few : (c : ℕ) → c < sessions.count → Owns sessions c (suc t)
+      → new.enqueued c ≤ arrived (server_at sessions c) (suc t)
+  enqueued-few c h own = elim (own-since sessions ok t c own) [
+    | inl was ↦ omega (arith, at.enqueued_arrived c h was, change.enqueued c h own.finish)
+    | inr now ↦ omega (arith, (fresh c h now).enqueued)
+  ]
+
+  waits : (c : ℕ) → c < sessions.count → Owns sessions c (suc t)
+      → (queue_of sessions new c).waiting ≡ words_from (flow_at sessions c).values
+      (sent (server_at sessions c) t) (new.enqueued c - sent (server_at sessions c) t)
+  waits c h own =
+      let values = (flow_at sessions c).values in
+      let gone = sent (server_at sessions c) t in
+      elim (own-since sessions ok t c own) [
+        | inl was ↦
+            change.kept_waiting c h (no-finish sessions ok t c h was.since own.finish)
+            ∙ at.waiting c h was
+            ∙ ap (λ n. words_from values gone (n - gone)) (sym (change.enqueued c h own.finish))
+        | inr now ↦
+            let start = fresh c h now in
+            finished-waiting c start.finished
+            ∙ same_words values gone 0 gone (new.enqueued c - gone) refl
+            (omega (arith, start.enqueued))
+      ]
+
+  receives : (c : ℕ) → c < sessions.count → Owns sessions c (suc t)
+      → let d = sessions.opposite c in
+      (queue_of sessions new c).received ≡ words_from (flow_at sessions d).values
+      (taken (server_at sessions d) t)
+      (landed (server_at sessions d) (suc t) - taken (server_at sessions d) t)
+  receives c h own =
+      let d = sessions.opposite c in
+      let server = server_at sessions d in
+      elim (own-since sessions ok t c own) [
+        | inl was ↦
+            change.kept_received c h (no-finish sessions ok t c h was.since own.finish)
+            ∙ at.received c h was
+        | inr now ↦
+            let start = fresh c h now in
+            let none = idle-then c h now in
+            finished-received c start.finished
+            ∙ same_words (flow_at sessions d).values (taken server t) 0 (taken server t)
+            (landed server (suc t) - taken server t) refl (omega (arith, none.landed))
+      ]
+
+  counts : (c : ℕ) → c < sessions.count → HasCounter sessions c (suc t)
+      → (queue_of sessions new c).counter + sent (server_at sessions c) t
+      ≡ (server_at sessions c).buffer + returned (server_at sessions c) (suc t)
+  counts c h has =
+      let set = has.set in
+      let finish = has.finish in
+      elim (cases_eq (sessions.routed_session c).set (suc t)) [
+        | inl now ↦
+            let go = (lasts sessions ok c h).go in
+            let none = idle-before (server_at sessions c) (paths-of sessions ok c h) (suc t)
+            (omega (arith, go, now)) in
+            let before = idle-before (server_at sessions c) (paths-of sessions ok c h) t
+            (omega (arith, go, now)) in
+            omega (arith, change.set_counter c h now, none.returned, before.sent)
+        | inr other ↦
+            let since = (lasts sessions ok c h).since in
+            let same = change.kept_counter c h
+            (no-finish sessions ok t c h (omega (arith, since, set, other)) finish)
+            (no-set sessions ok t c h (omega (arith, set, other)) finish) in
+            let was = at.counter c h
+            (record { set = omega (arith, set, other); finish = omega (arith, finish) }) in
+            omega (arith, same, was)
+      ]
+
+  owes : (c : ℕ) → c < sessions.count → Owns sessions c (suc t)
+      → let d = sessions.opposite c in
+      (queue_of sessions new c).owed + credited (server_at sessions d) t
+      ≡ taken (server_at sessions d) t
+  owes c h own = elim (own-since sessions ok t c own) [
+    | inl was ↦
+        let same = change.kept_owed c h (no-finish sessions ok t c h was.since own.finish) in
+        omega (arith, same, at.owed c h was)
+    | inr now ↦
+        let none = idle-then c h now in
+        omega (arith, finished-owed c (fresh c h now).finished, none.taken, none.credited)
+  ]
+
+  -- The tables of the cycle.
+  pub switched : Stands sessions (suc t) t new
+  switched = record {
+    entry_only = entries-only;
+    entry_all = entries-all;
+    route = routes;
+    running = runs;
+    halted = halts;
+    none_enqueued = λ c h soon.
+        let last = lasts sessions ok c h in
+        change.enqueued c h (omega (arith, last.since, last.set, last.finish, soon))
+        ∙ at.none_enqueued c h (omega (arith, soon));
+    enqueued_low = enqueued-low;
+    enqueued_high = enqueued-high;
+    enqueued_arrived = enqueued-few;
+    waiting = waits;
+    received = receives;
+    counter = counts;
+    owed = owes;
+    room = λ c h. omega (arith, at.room c h, change.kept_room c h);
+    held = λ v is. exact-same sessions v old.held new.held change.held (at.held v is);
+    held_none = λ is l. change.held l ∙ at.held_none is l;
   }

@@ -1,4 +1,4 @@
-//! The components of a network, seen as the law on networks sees them, follow it from cycle to cycle.
+//! A network of interfaces, routers and stages does what its private servers do, through switches.
 #![tactic(auto)]
 
 pub mod laws;

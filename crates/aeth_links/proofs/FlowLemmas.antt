@@ -13,8 +13,8 @@ use Rattle.aeth_report.specs.{SessionList.listed_at, SessionList.place_at}
 use Rattle.aeth_report.proofs.{ClosingLemmas.stay_of, FlowPlaces.IsFlowOf, OneFlit.session-paths}
 use Rattle.aeth_report.proofs.{StaysAlone.at-Contains, SessionNumbers.listed-among}
 use Rattle.aeth_accepted.specs.Inputs.{AreAccepted, Inputs, design_of, row_at, run_of}
-use Rattle.aeth_fabric.proofs.PathHops.{route_fits, there}
-use Rattle.aeth_fabric.proofs.SessionRows.{fits_remote, leads}
+use Rattle.aeth_routed_sessions.proofs.PathRoutersPassed.{route_fits, there}
+use Rattle.aeth_routed_sessions.proofs.SessionRows.{fits_remote, leads}
 
 module _ (inputs : Inputs) (accepted : AreAccepted inputs) (sound : IsSound (run_of inputs))
     (channel : Channel) (session : Session)

@@ -8,9 +8,9 @@ use Rattle.aeth_base.proofs.Ranges.{range-Contains, range_with_len-more}
 use Rattle.aeth_clocked.specs.declared.flit.Flit.{Flit}
 use Rattle.aeth_report.specs.{Flows.Run, Log.LogData}
 use Rattle.aeth_accepted.specs.Inputs.{Inputs, run_of}
-use Rattle.aeth_fabric.proofs.Carrying.{flat_map-same}
+use Rattle.aeth_routed_sessions.proofs.Carrying.{flat_map-same}
 use Rattle.aeth_running.specs.{Network.NetworkState, Network.first_network, Network.played}
-use Rattle.aeth_running.specs.{Routing.ByHeaders, Running.IsRunning}
+use Rattle.aeth_running.specs.{Routing.ByHeaders, Running.HoldsBefore}
 use Rattle.aeth_network.{specs.Runs.AreWiresOf, specs.Runs.IsNetworkOf, proofs.Playing.played-log}
 use Rattle.aeth_audit.specs.{Lines.row_line, declared.row.LinkRow.LinkRow}
 use Rattle.aeth_links.specs.Carried.{lines_of, row_of, rows_in, rows_on}
@@ -62,7 +62,7 @@ module _ (inputs : Inputs) (all : NetworkState) (is : IsNetworkOf inputs all) wh
 
   -- Each link has a wire.
   pub wires-enough : ((t : ℕ) → t ≤ inputs.cycles
-      → IsRunning inputs t (played t (first_network inputs all.routing)).components)
+      → HoldsBefore inputs t (played t (first_network inputs all.routing)).components)
       → length inputs.chip.links ≤ length all.components.wires
   wires-enough runs =
       let running = runs all.time is.within in

@@ -7,26 +7,28 @@ use Rattle.std.proofs.lemmas.Option.{slice_get-get_or, slice_get_within}
 use Rattle.std.specs.List.Sorted.{IsNonDecreasingBy}
 use Rattle.aeth_base.proofs.Lists.{slice_get-take}
 use Rattle.aeth_running.proofs.LandedWords.{slice_get-drop}
-use Rattle.aeth_components.specs.declared.lane.Lane.{Lane}
+use Rattle.aeth_components.specs.declared.channel_state.ChannelState.{ChannelState}
 use Rattle.aeth_stimuli.specs.Stimuli.{Take}
 use Rattle.aeth_network.specs.Behind.{passed}
 use Rattle.aeth_network.specs.Next.{AsksIn, HasAsker, HasRowTaker, HasTaker, pull_behind}
 use Rattle.aeth_network.proofs.{Passed.passed-of, PullLemmas.cycle_of}
 
 -- A channel that asks, at its place.
-pub asker-at : (lanes : List Lane) (takes : List Take) (place number t : ℕ) (d : Lane)
-    → number < length lanes → AsksIn (get_or lanes number d) number takes place t
-    → HasAsker lanes takes place t
-asker-at lanes takes place number t d within asks = record {
+pub asker-at : (channel_states : List ChannelState) (takes : List Take) (place number t : ℕ)
+    (d : ChannelState)
+    → number < length channel_states → AsksIn (get_or channel_states number d) number takes place t
+    → HasAsker channel_states takes place t
+asker-at channel_states takes place number t d within asks = record {
   number = number;
-  lane = get_or lanes number d;
-  at = slice_get-get_or lanes number d within;
+  channel_state = get_or channel_states number d;
+  at = slice_get-get_or channel_states number d within;
   asks = asks;
 }
 
 -- A channel has a word in a cycle that its receiver takes as it stands.
-abbrev pub IsTaker : List Take → ℕ → ℕ → Lane → ℕ → Type 0
-IsTaker takes place number lane t = (0 < lane.pull) × AsksIn lane number takes place t
+abbrev pub IsTaker : List Take → ℕ → ℕ → ChannelState → ℕ → Type 0
+IsTaker takes place number channel_state t = (0 < channel_state.pull)
+    × AsksIn channel_state number takes place t
 
 -- A row among some by which the receiver of a channel takes some.
 record IsPulledBy (number : ℕ) (rows : List Take) : Type 0 where
@@ -83,21 +85,22 @@ slice-at xs a b i x at =
       omega arith,
     )
 
-module _ (lanes : List Lane) (takes : List Take) (rises : IsNonDecreasingBy cycle_of takes)
+module _ (channel_states : List ChannelState) (takes : List Take)
+    (rises : IsNonDecreasingBy cycle_of takes)
     (place : ℕ) where
   -- So a receiver that takes does as it stands, or by a row from the place on.
-  pub asker-known : (t : ℕ) → HasAsker lanes takes place t
-      → HasTaker lanes takes place t ⊎ HasRowTaker lanes takes place t
-  asker-known t has = elim (cases_lt 0 has.lane.pull) [
+  pub asker-known : (t : ℕ) → HasAsker channel_states takes place t
+      → HasTaker channel_states takes place t ⊎ HasRowTaker channel_states takes place t
+  asker-known t has = elim (cases_lt 0 has.channel_state.pull) [
     | inl some ↦ inl (record {
       number = has.number;
-      lane = has.lane;
+      channel_state = has.channel_state;
       at = has.at;
       some = some;
       asks = has.asks;
     })
     | inr none ↦
-        let by = pulled-by has.number has.lane.pull
+        let by = pulled-by has.number has.channel_state.pull
         (slice_range takes place (passed cycle_of (t + 1) takes)) (omega arith) has.asks.pulls in
         let at = slice-at takes place (passed cycle_of (t + 1) takes) by.place by.row by.at in
         let number = place + by.place in
@@ -115,10 +118,10 @@ module _ (lanes : List Lane) (takes : List Take) (rises : IsNonDecreasingBy cycl
           from = omega arith;
           since = since;
           asked = record {
-            lane = has.lane;
-            at = ap (slice_get lanes) by.own ∙ has.at;
+            channel_state = has.channel_state;
+            at = ap (slice_get channel_states) by.own ∙ has.at;
             some = by.some;
-            asks = subst (λ n. AsksIn has.lane n takes place t) (sym by.own) has.asks;
+            asks = subst (λ n. AsksIn has.channel_state n takes place t) (sym by.own) has.asks;
           };
         })
   ]

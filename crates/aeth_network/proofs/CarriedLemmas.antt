@@ -1,7 +1,7 @@
 -- What cycles cost, by the flits that they carry.
 use Rattle.std.proofs.Common.{◌≡◌, ◌≤◌, ◌+◌, ◌-◌, ◌*◌, ◌∙◌, ℕ, zero, suc, ap, arith, refl, subst}
 use Rattle.std.proofs.Common.{sym}
-use Rattle.aeth_components.specs.Turns.{flits_on}
+use Rattle.aeth_components.specs.FlitsOnWires.{flits_on}
 use Rattle.aeth_running.specs.Network.{NetworkState, played}
 use Rattle.aeth_network.{specs.Carried.carried_in, proofs.NextBusy.played-sum}
 

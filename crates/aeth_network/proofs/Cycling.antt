@@ -6,13 +6,14 @@ use Rattle.std.proofs.lemmas.Bool.Decides.{nat_tests}
 use Rattle.std.proofs.lemmas.List.{length-map, Elements.All-drop, Elements.All-filter}
 use Rattle.std.proofs.lemmas.List.{Elements.All-take, Elements.All-weaker, Sums.sum_by-append}
 use Rattle.aeth_trace.specs.Channels.{channel_number}
-use Rattle.aeth_components.specs.{Components.ComponentsState, Components.Cycle}
-use Rattle.aeth_components.specs.{Components.frames_of, Events.IsDoable, Frames.Frame}
-use Rattle.aeth_components.specs.{Frames.frame_of, Lanes.IsLane, declared.event.Event.Event}
-use Rattle.aeth_schedule.specs.declared.going.Going.{Going}
+use Rattle.aeth_components.specs.{Components.ComponentsState, Components.ComponentsCycle}
+use Rattle.aeth_components.specs.{Components.wirings_of, Events.IsDoable, Wirings.Wiring}
+use Rattle.aeth_components.specs.{Wirings.wiring_of, ChannelStates.IsChannelState}
+use Rattle.aeth_components.specs.{declared.event.Event.Event}
+use Rattle.aeth_schedule.specs.declared.session_start.SessionStart.{SessionStart}
 use Rattle.aeth_stimuli.specs.{Events.events_in, Stimuli.Offer, Stimuli.Take}
-use Rattle.aeth_running.specs.Network.{NetworkState, gone_with, goings_in, offers_in, ready_in}
-use Rattle.aeth_running.specs.Network.{stepped, takes_in, untils_in}
+use Rattle.aeth_running.specs.Network.{NetworkState, gone_with, session_starts_in, offers_in}
+use Rattle.aeth_running.specs.Network.{ready_in, stepped, takes_in, untils_in}
 use Rattle.aeth_running.specs.Routing.{Entering, entered_with, enterings_in, later_rows}
 use Rattle.aeth_running.specs.Quiet.{brought_over}
 use Rattle.aeth_network.specs.{Behind.IsBehind, Behind.passed, Brought.CanBring, Brought.IsBrought}
@@ -22,8 +23,8 @@ use Rattle.aeth_network.specs.{declared.network.RoutedNetwork.TheInside.Inside}
 use Rattle.aeth_network.specs.{Cursors.routing_with, Cursors.stimuli_with, Routes.routing_in}
 use Rattle.aeth_network.proofs.{FitLemmas.AreFit-all_gone, MappedRows.events-range}
 use Rattle.aeth_network.proofs.{SeenNetworks.seen, SeenNetworks.seen_next, Passed.passed-few}
-use Rattle.aeth_network.proofs.{Ready.All-passing, Ready.coming-are, Ready.frames-ready}
-use Rattle.aeth_network.proofs.{Ready.goings-are, Ready.length-in, Ready.ways-are}
+use Rattle.aeth_network.proofs.{Ready.All-passing, Ready.coming-are, Ready.wirings-ready}
+use Rattle.aeth_network.proofs.{Ready.session_starts-are, Ready.length-in, Ready.ways-are}
 use Rattle.aeth_network.proofs.{Stepping.behind-is}
 
 module _ (all : Inside) (is : IsNetwork (vec_capacity all.state.replaced) (seen all)) where
@@ -31,11 +32,11 @@ module _ (all : Inside) (is : IsNetwork (vec_capacity all.state.replaced) (seen 
   old = seen all
 
   -- The words of a cycle are for channels that there are, and of this cycle.
-  pub offers-known : All (λ one. one.number < length all.state.components.lanes)
+  pub offers-known : All (λ one. one.number < length all.state.components.channel_states)
       (offers_in old.stimuli all.time)
   offers-known =
       All-filter (λ (one : Offer). one.cycle == all.time)
-      (λ (one : Offer). one.number < length all.state.components.lanes) old.stimuli.offers
+      (λ (one : Offer). one.number < length all.state.components.channel_states) old.stimuli.offers
       is.stimuli.offers
 
   pub offers-now : All (λ one. one.cycle ≡ all.time) (offers_in old.stimuli all.time)
@@ -47,11 +48,12 @@ module _ (all : Inside) (is : IsNetwork (vec_capacity all.state.replaced) (seen 
   -- They have room, once the sessions of the cycle have gone.
   pub fit-started : AreFit (length all.state.components.words) (length all.state.components.parts)
       (untils_in old.stimuli all.time all.state.untils.items) (offers_in old.stimuli all.time)
-      (fold gone_with all.state.components.lanes (goings_in old.stimuli all.time))
+      (fold gone_with all.state.components.channel_states (session_starts_in old.stimuli all.time))
   fit-started =
       let words = length all.state.components.words in
       let parts = length all.state.components.parts in
-      let gone = fold gone_with all.state.components.lanes (goings_in old.stimuli all.time) in
+      let gone = fold gone_with all.state.components.channel_states
+      (session_starts_in old.stimuli all.time) in
       let now = untils_in old.stimuli all.time all.state.untils.items in
       let key = λ (one : Offer). one.cycle in
       let later = drop (passed key (all.time + 1) old.stimuli.offers) old.stimuli.offers in
@@ -59,10 +61,12 @@ module _ (all : Inside) (is : IsNetwork (vec_capacity all.state.replaced) (seen 
       subst (λ (list : List Offer). AreFit words parts now list gone)
       (coming-are (vec_capacity all.state.replaced) old is)
       (AreFit-all_gone words parts all.state.untils.items
-      (drop (passed key all.time old.stimuli.offers) old.stimuli.offers) all.state.components.lanes
-      (goings_in old.stimuli all.time) is.untils (ways-are (vec_capacity all.state.replaced) old is) is.fit) in
-      λ k lane at.
-      let one = both k lane at in
+      (drop (passed key all.time old.stimuli.offers) old.stimuli.offers)
+      all.state.components.channel_states
+      (session_starts_in old.stimuli all.time) is.untils
+      (ways-are (vec_capacity all.state.replaced) old is) is.fit) in
+      λ k channel_state at.
+      let one = both k channel_state at in
       let room = one.room in
       let sum = sum_by-append (λ (offer : Offer). cond (is_accepted now k offer) 1 0)
       (offers_in old.stimuli all.time) later in
@@ -81,47 +85,55 @@ module _ (all : Inside) (is : IsNetwork (vec_capacity all.state.replaced) (seen 
       (coming-are (vec_capacity all.state.replaced) old is) is.counts)
 
   -- There is room to note the channels whose sessions go.
-  room-left : length all.state.replaced.items + length (goings_in old.stimuli all.time)
+  room-left : length all.state.replaced.items + length (session_starts_in old.stimuli all.time)
       ≤ vec_capacity all.state.replaced
   room-left =
-      let key = λ (one : Going). one.lane.go in
-      let more = length-in key all.time old.stimuli.schedule.goings (goings_in old.stimuli all.time)
-      (goings-are (vec_capacity all.state.replaced) old is) in
-      let few = passed-few key (all.time + 1) old.stimuli.schedule.goings in
+      let key = λ (one : SessionStart). one.channel_state.go in
+      let more = length-in key all.time old.stimuli.schedule.session_starts
+      (session_starts_in old.stimuli all.time)
+      (session_starts-are (vec_capacity all.state.replaced) old is) in
+      let few = passed-few key (all.time + 1) old.stimuli.schedule.session_starts in
       let gone = is.gone in
       let enough = is.enough in
       omega arith
 
-  module _ (rows : CycleRows) (goings : rows.goings ≡ goings_in (stimuli_with all.given) all.time)
+  module _ (rows : CycleRows)
+      (session_starts : rows.session_starts ≡ session_starts_in (stimuli_with all.given) all.time)
       (offers : rows.offers.now ≡ offers_in (stimuli_with all.given) all.time)
       (takes : rows.takes.now ≡ takes_in (stimuli_with all.given) all.time) where
     -- A cycle can be brought.
     pub can-bring : CanBring all.state rows all.time
     can-bring =
-        let lanes = length all.state.components.lanes in
+        let channel_states = length all.state.components.channel_states in
         let words = length all.state.components.words in
         let parts = length all.state.components.parts in
-        let goes = λ (one : Going). one.lane.go == all.time in
-        let size : length (frames_of all.state.components) ≡ parts =
-        length-map all.state.components.parts frame_of in
+        let goes = λ (one : SessionStart). one.channel_state.go == all.time in
+        let size : length (wirings_of all.state.components) ≡ parts =
+        length-map all.state.components.parts wiring_of in
         record {
           few_channels = is.few_channels;
           few_words = is.few_words;
           untils = is.untils;
           outside = is.outside;
-          room = rw goings room-left;
-          goings = rw goings (All-filter goes (λ (one : Going). channel_number one.channel < lanes)
-              old.stimuli.schedule.goings is.stimuli.goings);
-          lanes = rw goings (All-passing
-              (λ (one : Going). IsLane words (length (frames_of all.state.components)) one.lane)
-              (λ (one : Going). IsLane words parts one.lane) goes old.stimuli.schedule.goings
-              (λ one now sound. subst (λ n. IsLane words n one.lane) size sound) is.stimuli.lanes);
+          room = rw session_starts room-left;
+          session_starts =
+              rw session_starts
+              (All-filter goes
+              (λ (one : SessionStart). channel_number one.channel < channel_states)
+              old.stimuli.schedule.session_starts is.stimuli.session_starts);
+          channel_states = rw session_starts (All-passing
+              (λ (one : SessionStart). IsChannelState words
+              (length (wirings_of all.state.components)) one.channel_state)
+              (λ (one : SessionStart). IsChannelState words parts one.channel_state) goes
+              old.stimuli.schedule.session_starts
+              (λ one now sound. subst (λ n. IsChannelState words n one.channel_state) size sound)
+              is.stimuli.channel_states);
           offers = rw offers offers-known;
           now = rw offers offers-now;
-          fit = rw (goings, offers) fit-started;
+          fit = rw (session_starts, offers) fit-started;
           counts = rw offers counts-now;
           takes = rw takes (All-filter (λ (one : Take). one.cycle == all.time)
-              (λ (one : Take). one.number < lanes) old.stimuli.takes is.stimuli.takes);
+              (λ (one : Take). one.number < channel_states) old.stimuli.takes is.stimuli.takes);
         }
 
     -- It was brought, and the components do its events.
@@ -132,7 +144,7 @@ module _ (all : Inside) (is : IsNetwork (vec_capacity all.state.replaced) (seen 
       over none =
           let behind = brought_over old in
           let ready = ready_in old in
-          rw (has.components, has.outside, has.untils, has.replaced, goings, offers, takes)
+          rw (has.components, has.outside, has.untils, has.replaced, session_starts, offers, takes)
           (ap (λ (enterings : List Entering). record behind {
             components = record ready {
               parts = fold entered_with all.state.components.parts enterings;
@@ -148,27 +160,38 @@ module _ (all : Inside) (is : IsNetwork (vec_capacity all.state.replaced) (seen 
           }) where
         ready : entered ≡ ready_in old
         ready = enters
-            ∙ rw (has.components, has.untils, goings, offers, takes, tables, entering.rows_are) refl
+            ∙ rw (
+              has.components,
+              has.untils,
+              session_starts,
+              offers,
+              takes,
+              tables,
+              entering.rows_are,
+            ) refl
 
-        pub events-doable : All (IsDoable (frames_of entered)) rows.events.now
+        pub events-doable : All (IsDoable (wirings_of entered)) rows.events.now
         events-doable =
-            let frames = frames_of all.state.components in
+            let wirings = wirings_of all.state.components in
             let schedule = old.stimuli.schedule in
             let from = passed (λ (cycle : ℕ). cycle) all.time schedule.cycles in
             let to = passed (λ (cycle : ℕ). cycle) (all.time + 1) schedule.cycles in
             rw (events, ready)
-            (subst (λ (list : List Frame). All (IsDoable list) (events_in old.stimuli all.time))
-            (sym (frames-ready (vec_capacity all.state.replaced) old is))
-            (subst (All (IsDoable frames)) (events-range all.time schedule.cycles schedule.events
+            (subst (λ (list : List Wiring). All (IsDoable list) (events_in old.stimuli all.time))
+            (sym (wirings-ready (vec_capacity all.state.replaced) old is))
+            (subst (All (IsDoable wirings)) (events-range all.time schedule.cycles schedule.events
             is.stimuli.event_cycles is.stimuli.event_order)
-            (All-take (IsDoable frames) (to - from) (drop from schedule.events)
-            (All-drop (IsDoable frames) from schedule.events is.stimuli.events))))
+            (All-take (IsDoable wirings) (to - from) (drop from schedule.events)
+            (All-drop (IsDoable wirings) from schedule.events is.stimuli.events))))
 
-        pub stepped-behind : (new : ComponentsState) → Cycle rows.events.now all.time entered new
+        pub stepped-behind : (new : ComponentsState)
+            → ComponentsCycle rows.events.now all.time entered new
             → seen_next all (record brought { components = new }) ≡ stepped old
         stepped-behind new did =
-            let done : Cycle (events_in old.stimuli all.time) all.time (ready_in old) new =
-            subst (λ (list : List Event). Cycle list all.time (ready_in old) new) events
-            (subst (λ (one : ComponentsState). Cycle rows.events.now all.time one new) ready did) in
-            rw (has.outside, has.untils, has.replaced, goings, offers)
+            let done : ComponentsCycle (events_in old.stimuli all.time) all.time (ready_in old)
+            new =
+            subst (λ (list : List Event). ComponentsCycle list all.time (ready_in old) new) events
+            (subst (λ (one : ComponentsState). ComponentsCycle rows.events.now all.time one new)
+            ready did) in
+            rw (has.outside, has.untils, has.replaced, session_starts, offers)
             (behind-is (vec_capacity all.state.replaced) old is new done)

@@ -11,19 +11,21 @@ use Rattle.aeth_base.specs.declared.ids.Channel.{Channel}
 use Rattle.aeth_base.specs.declared.ids.Side.TheVariants.{Back, Fwd}
 use Rattle.aeth_trace.specs.{Limits.max_rows, Words.words_on, declared.words.WordRow.WordRow}
 use Rattle.aeth_report.specs.{Channels.channels_of, Log.LogData}
-use Rattle.aeth_components.specs.{Components.frames_of, Events.IsDoable, Frames.Frame}
-use Rattle.aeth_components.specs.{Frames.frame_of, Making.new_parts, Lanes.IsLane}
+use Rattle.aeth_components.specs.{Components.wirings_of, Events.IsDoable, Wirings.Wiring}
+use Rattle.aeth_components.specs.{Wirings.wiring_of, Making.new_parts, ChannelStates.IsChannelState}
 use Rattle.aeth_components.specs.{declared.making.RouterKind.RouterKind}
-use Rattle.aeth_components.proofs.KindLemmas.{frames-kind}
+use Rattle.aeth_components.proofs.KindLemmas.{wirings-kind}
 use Rattle.aeth_accepted.specs.Inputs.{AreAccepted, Inputs}
-use Rattle.aeth_schedule.{specs.Goings.goings_of, specs.Rooms.rooms_of, specs.Switching.loaded_of}
-use Rattle.aeth_schedule.{specs.Values.values_of, specs.Values.values_on, specs.Values.values_with}
-use Rattle.aeth_schedule.{specs.declared.going.Going.Going, proofs.Places.on-few}
+use Rattle.aeth_schedule.specs.{SessionStarts.session_starts_of, Rooms.rooms_of}
+use Rattle.aeth_schedule.specs.{Switching.loaded_of, Values.values_of, Values.values_on}
+use Rattle.aeth_schedule.specs.{Values.values_with}
+use Rattle.aeth_schedule.specs.{declared.session_start.SessionStart.SessionStart}
+use Rattle.aeth_schedule.proofs.Places.{on-few}
 use Rattle.aeth_running.specs.FirstLog.{first_channel, first_log}
 use Rattle.aeth_running.specs.Network.{first_network, routed_components}
 use Rattle.aeth_running.specs.Routing.{ByHeaders, Entering, IsRoutingFor, Routing, later_rows}
 use Rattle.aeth_running.proofs.PlayedTables.{later-order}
-use Rattle.aeth_stimuli.specs.Loaded.{loaded_components, no_lane}
+use Rattle.aeth_stimuli.specs.Loaded.{loaded_components, no_channel_state}
 use Rattle.aeth_stimuli.specs.Stimuli.{AreStimuli, Offer, Stimuli, Take, offer_of, stimuli_of}
 use Rattle.aeth_network.specs.{Behind.passed, Cursors.AreCursors, First.IsFirstState}
 use Rattle.aeth_network.specs.{Networks.IsNetwork, Networks.network_of}
@@ -31,10 +33,10 @@ use Rattle.aeth_network.specs.{declared.given.Cursors.Cursors, declared.state.St
 use Rattle.aeth_network.specs.{Records.IsFresh}
 use Rattle.aeth_network.proofs.{FirstComponents.AreFit-none, FirstComponents.HaveCounts-none}
 use Rattle.aeth_network.proofs.{FirstComponents.IsComponents-loaded, FirstComponents.few-parts}
-use Rattle.aeth_network.proofs.{FirstComponents.loaded-frames, FirstComponents.loaded-size}
-use Rattle.aeth_network.proofs.{FewGoings.goings-few, FewGoings.over-two, FirstGoings.fresh-goings}
-use Rattle.aeth_network.proofs.{Passed.passed-first, QuietPlaces.quiet-first}
-use Rattle.aeth_network.proofs.{WindowLemmas.over-none}
+use Rattle.aeth_network.proofs.{FirstComponents.loaded-wirings, FirstComponents.loaded-size}
+use Rattle.aeth_network.proofs.{FewSessionStarts.session_starts-few, FewSessionStarts.over-two}
+use Rattle.aeth_network.proofs.{FirstSessionStarts.fresh-session_starts, Passed.passed-first}
+use Rattle.aeth_network.proofs.{QuietPlaces.quiet-first, WindowLemmas.over-none}
 
 -- The channels of connections have no more words than twice so often the most rows.
 with-few : (words : List WordRow) (c : ℕ) → length (values_with words c) ≤ 2 * length words
@@ -78,9 +80,9 @@ module _ (inputs : Inputs) (accepted : AreAccepted inputs) (routing : Routing)
     (routes : IsRoutingFor inputs routing)
     (stimuli : AreStimuli (2 * length inputs.app.connections)
     (length (values_of inputs.words (length inputs.app.connections)))
-    (frames_of (loaded_components inputs)) (stimuli_of inputs)) where
+    (wirings_of (loaded_components inputs)) (stimuli_of inputs)) where
   -- It has all that holds of networks.
-  pub IsNetwork-first : (capacity : ℕ) → length (goings_of inputs) ≤ capacity
+  pub IsNetwork-first : (capacity : ℕ) → length (session_starts_of inputs) ≤ capacity
       → IsNetwork capacity (first_network inputs routing)
   unfolding first_network
   IsNetwork-first capacity enough =
@@ -93,8 +95,9 @@ module _ (inputs : Inputs) (accepted : AreAccepted inputs) (routing : Routing)
       let values = values_of inputs.words connections in
       let all = stimuli_of inputs in
       let components = routed_components inputs routing in
-      let lanes : length (first_network inputs routing).components.lanes ≡ channels =
-      length-replicate channels no_lane in
+      let channel_states : length (first_network inputs routing).components.channel_states
+      ≡ channels =
+      length-replicate channels no_channel_state in
       let zeros : length (first_network inputs routing).untils ≡ channels = length-replicate channels 0 in
       let outsides : length (first_network inputs routing).outside ≡ channels =
       length-replicate channels 0 in
@@ -113,10 +116,11 @@ module _ (inputs : Inputs) (accepted : AreAccepted inputs) (routing : Routing)
       length-map (channels_of connections) (first_channel inputs) in
       let counted = length-channels_of connections in
       record {
-        stimuli = subst (λ n. AreStimuli n (length values) (frames_of components) all) (sym lanes)
-            (subst (λ (frames : List Frame). AreStimuli channels (length values) frames all)
-            (loaded-frames ByHeaders chip is_chip rooms channels values events
-            ∙ sym (loaded-frames routing chip is_chip rooms channels values events)) stimuli);
+        stimuli = subst (λ n. AreStimuli n (length values) (wirings_of components) all)
+            (sym channel_states)
+            (subst (λ (wirings : List Wiring). AreStimuli channels (length values) wirings all)
+            (loaded-wirings ByHeaders chip is_chip rooms channels values events
+            ∙ sym (loaded-wirings routing chip is_chip rooms channels values events)) stimuli);
         enterings = later-order inputs routing routes;
         components = IsComponents-loaded routing chip is_chip rooms channels values events;
         some_parts = some;
@@ -128,12 +132,15 @@ module _ (inputs : Inputs) (accepted : AreAccepted inputs) (routing : Routing)
             (drop (passed (λ (one : Offer). one.cycle) 0 all.offers) all.offers) some;
         counts = HaveCounts-none channels
             (drop (passed (λ (one : Offer). one.cycle) 0 all.offers) all.offers) (omega arith);
-        fresh = All-weaker (IsFresh inputs.words) (λ (one : Going). one.lane.accepted ≡ 0)
-            (λ one fresh. fresh.none) (goings_of inputs) (fresh-goings inputs accepted);
-        replaced = All-nil (IsLane (length values) (length components.parts));
-        gone = sym (passed-first (λ (one : Going). one.lane.go) (goings_of inputs));
+        fresh = All-weaker (IsFresh inputs.words)
+            (λ (one : SessionStart). one.channel_state.accepted ≡ 0)
+            (λ one fresh. fresh.none) (session_starts_of inputs)
+            (fresh-session_starts inputs accepted);
+        replaced = All-nil (IsChannelState (length values) (length components.parts));
+        gone = sym (passed-first (λ (one : SessionStart). one.channel_state.go)
+            (session_starts_of inputs));
         enough = enough;
-        few_goings = goings-few inputs accepted;
+        few_session_starts = session_starts-few inputs accepted;
         few_channels = omega arith;
         few_words = values-few inputs.words connections few_rows most;
         few_parts = few-parts routing chip is_chip rooms channels values events;
@@ -142,18 +149,22 @@ module _ (inputs : Inputs) (accepted : AreAccepted inputs) (routing : Routing)
 
 -- All places are the first.
 pub AreCursors-first : (cursors : Cursors) (all : Stimuli) (routing : Routing) → cursors.event ≡ 0
-    → cursors.going ≡ 0 → cursors.offer ≡ 0 → cursors.take ≡ 0 → cursors.window ≡ 0
+    → cursors.session_start ≡ 0 → cursors.offer ≡ 0 → cursors.take ≡ 0 → cursors.window ≡ 0
     → cursors.entering ≡ 0 → cursors.quiet_until ≡ 0 → AreCursors cursors 0 all routing
-AreCursors-first cursors all routing event going offer take window entering quiet = record {
+AreCursors-first cursors all routing event session_start offer take window entering quiet = record {
   event_is = event ∙ sym (passed-first (λ (cycle : ℕ). cycle) all.schedule.cycles);
-  going_is = going ∙ sym (passed-first (λ (one : Going). one.lane.go) all.schedule.goings);
+  session_start_is = session_start
+      ∙ sym (passed-first (λ (one : SessionStart). one.channel_state.go)
+      all.schedule.session_starts);
   offer_is = offer ∙ sym (passed-first (λ (one : Offer). one.cycle) all.offers);
   take_is = take ∙ sym (passed-first (λ (one : Take). one.cycle) all.takes);
   window_is = over-none cursors.window 0 all.schedule.windows window;
   entering_is = entering ∙ sym (passed-first (λ (one : Entering). one.cycle) (later_rows routing));
   quiet = record {
     events = quiet-first (λ (cycle : ℕ). cycle) _ _ all.schedule.cycles quiet;
-    goings = quiet-first (λ (one : Going). one.lane.go) _ _ all.schedule.goings quiet;
+    session_starts =
+        quiet-first (λ (one : SessionStart). one.channel_state.go) _ _ all.schedule.session_starts
+        quiet;
     takes = quiet-first (λ (one : Take). one.cycle) _ _ all.takes quiet;
     enterings = quiet-first (λ (one : Entering). one.cycle) _ _ (later_rows routing) quiet;
   };
@@ -161,14 +172,15 @@ AreCursors-first cursors all routing event going offer take window entering quie
 
 -- The components can do what is written before the first cycle, whatever the kind of routers.
 pub loaded-doable : (inputs : Inputs) (accepted : AreAccepted inputs) (kind : RouterKind)
-    → All (IsDoable (frames_of (loaded_components inputs))) (loaded_of inputs)
-    → All (IsDoable (map frame_of (new_parts inputs.chip kind (rooms_of inputs)))) (loaded_of inputs)
+    → All (IsDoable (wirings_of (loaded_components inputs))) (loaded_of inputs)
+    → All (IsDoable (map wiring_of (new_parts inputs.chip kind (rooms_of inputs))))
+    (loaded_of inputs)
 loaded-doable inputs accepted kind all =
-    subst (λ (frames : List Frame). All (IsDoable frames) (loaded_of inputs))
-    (loaded-frames ByHeaders inputs.chip accepted.design.chip_is (rooms_of inputs)
+    subst (λ (wirings : List Wiring). All (IsDoable wirings) (loaded_of inputs))
+    (loaded-wirings ByHeaders inputs.chip accepted.design.chip_is (rooms_of inputs)
     (2 * length inputs.app.connections)
     (values_of inputs.words (length inputs.app.connections)) (loaded_of inputs)
-    ∙ sym (frames-kind inputs.chip kind (rooms_of inputs))) all
+    ∙ sym (wirings-kind inputs.chip kind (rooms_of inputs))) all
 
 -- The network of inputs, part by part.
 pub first-from : (inputs : Inputs) (stimuli : Stimuli) (routing : Routing) (state : State)

@@ -6,16 +6,16 @@ mod CountLemmas
 mod CycleLemmas
 mod Cycling
 pub mod Enterings
-mod FewGoings
+mod FewSessionStarts
 mod FirstComponents
-mod FirstGoings
+mod FirstSessionStarts
 mod FirstNetwork
 mod Firsts
 mod FitLemmas
 mod Followed
 mod KnownFirsts
-mod LaneCounts
-mod Lanes
+mod ChannelStateCounts
+mod ChannelStates
 mod MappedRows
 mod NextBusy
 mod Passed
@@ -24,13 +24,13 @@ mod PullLemmas
 mod QuietPlaces
 mod Ready
 mod Replaced
-mod RestingLanes
+mod RestingChannelStates
 mod RowLemmas
 mod RunWires
 mod SeenNetworks
 mod Skipped
 mod Skipping
 mod Stepping
-mod TellingLemmas
+mod LoggingLemmas
 mod WindowLemmas
 mod WordCycles

@@ -9,25 +9,29 @@ use Rattle.aeth_base.proofs.Members.{All-slice_get}
 use Rattle.aeth_clocked.specs.Wires.{flit_on}
 use Rattle.aeth_router.specs.declared.part.Part.{Part}
 use Rattle.aeth_tables.proofs.ListLaws.{all_from_places}
-use Rattle.aeth_components.specs.{First.HasSender, First.IsFirst, Lanes.is_open, Phases.asked_of}
-use Rattle.aeth_components.specs.{Turns.sends_own, declared.lane.Lane.Lane}
+use Rattle.aeth_components.specs.{First.HasSender, First.IsFirst, ChannelStates.is_open}
+use Rattle.aeth_components.specs.{Phases.asked_of, FlitsOnWires.sends_own}
+use Rattle.aeth_components.specs.{declared.channel_state.ChannelState.ChannelState}
 use Rattle.aeth_accepted.specs.Inputs.{Inputs, run_of}
-use Rattle.aeth_schedule.specs.Windows.{IsWithin}
-use Rattle.aeth_schedule.specs.declared.{going.Going.Going, windows.Window.Window}
-use Rattle.aeth_stimuli.specs.{Loaded.no_lane, Stimuli.Offer, Stimuli.Stimuli, Stimuli.Take}
-use Rattle.aeth_running.proofs.{Played.played-stimuli as first-stimuli, StillGoings.no-goings}
-use Rattle.aeth_running.proofs.{StillRows.no-switches}
-use Rattle.aeth_running.specs.{Idle.IsIdle, Idle.IsNextBusyOf, Network.NetworkState}
-use Rattle.aeth_running.specs.{Network.accepted_with, Network.first_network, Network.gone_with}
-use Rattle.aeth_running.specs.{Network.goings_in, Network.offers_in, Network.played}
-use Rattle.aeth_running.specs.{Network.stepped, Network.untils_in, Routing.Routing, Quiet.AreStill}
-use Rattle.aeth_running.specs.{Quiet.IsNextBusy, Quiet.IsQuiet, Quiet.ready_lanes, Still.IsStill}
+use Rattle.aeth_schedule.specs.Windows.{IsInWindow}
+use Rattle.aeth_schedule.specs.declared.session_start.SessionStart.{SessionStart}
+use Rattle.aeth_schedule.specs.declared.windows.Window.{Window}
+use Rattle.aeth_stimuli.specs.Loaded.{no_channel_state}
+use Rattle.aeth_stimuli.specs.Stimuli.{Offer, Stimuli, Take}
+use Rattle.aeth_running.proofs.{Played.played-stimuli as first-stimuli}
+use Rattle.aeth_running.proofs.{StillSessionStarts.no-session_starts, StillRows.no-switches}
+use Rattle.aeth_running.specs.Idle.{IsIdleCycle, IsNextBusyOf}
+use Rattle.aeth_running.specs.Network.{NetworkState, accepted_with, first_network, gone_with}
+use Rattle.aeth_running.specs.Network.{session_starts_in, offers_in, played, stepped, untils_in}
+use Rattle.aeth_running.specs.Routing.{Routing}
+use Rattle.aeth_running.specs.Quiet.{AreStill, IsNextBusy, IsQuiet, ready_channel_states}
+use Rattle.aeth_running.specs.Still.{IsStill}
 use Rattle.aeth_network.specs.{Behind.passed, Networks.IsNetwork, Next.HasAsker, Next.HasOffer}
 use Rattle.aeth_network.specs.{Next.HasWindow, Runs.IsNetworkOf}
-use Rattle.aeth_network.proofs.{Firsts.not-empty, Playing.cycles-of, RestingLanes.asks-first}
-use Rattle.aeth_network.proofs.{RestingLanes.asks-seen, RestingLanes.begun}
-use Rattle.aeth_network.proofs.{RestingLanes.gone-landed, RestingLanes.seen-asks, Ready.ways-are}
-use Rattle.aeth_network.proofs.{FitLemmas.HasWay}
+use Rattle.aeth_network.proofs.{Firsts.not-empty, Playing.cycles-of}
+use Rattle.aeth_network.proofs.{RestingChannelStates.asks-first, RestingChannelStates.asks-seen}
+use Rattle.aeth_network.proofs.{RestingChannelStates.begun, RestingChannelStates.gone-landed}
+use Rattle.aeth_network.proofs.{RestingChannelStates.seen-asks, Ready.ways-are, FitLemmas.HasWay}
 
 -- So many cycles behind so many.
 pub played-sum : (j t : ℕ) (all : NetworkState) → played j (played t all) ≡ played (t + j) all
@@ -46,17 +50,19 @@ mute-unless cycle part never = elim (cases_Bool (sends_own cycle part)) [
 ]
 
 -- Of no channel of the first network has anything landed.
-first-landed : (inputs : Inputs) (routing : Routing) (number : ℕ) (lane : Lane)
-    → slice_get (first_network inputs routing).components.lanes number ≡ Some lane → lane.landed ≡ 0
+first-landed : (inputs : Inputs) (routing : Routing) (number : ℕ) (channel_state : ChannelState)
+    → slice_get (first_network inputs routing).components.channel_states number ≡ Some channel_state
+    → channel_state.landed ≡ 0
 unfolding first_network
-first-landed inputs routing number lane at =
+first-landed inputs routing number channel_state at =
     let count = 2 * length inputs.app.connections in
-    let within = slice_get_within (replicate count no_lane) number lane at in
-    let size = length-replicate count no_lane in
-    let same : lane ≡ no_lane =
-    sym (get_or_from_slice_get (replicate count no_lane) number lane no_lane at)
-    ∙ get_or-replicate count number no_lane no_lane (omega arith) in
-    ap (λ (one : Lane). one.landed) same
+    let within = slice_get_within (replicate count no_channel_state) number channel_state at in
+    let size = length-replicate count no_channel_state in
+    let same : channel_state ≡ no_channel_state =
+    sym (get_or_from_slice_get (replicate count no_channel_state) number channel_state
+    no_channel_state at)
+    ∙ get_or-replicate count number no_channel_state no_channel_state (omega arith) in
+    ap (λ (one : ChannelState). one.landed) same
 
 -- The network of inputs before their first cycle.
 begins : (inputs : Inputs) (all : NetworkState) → IsNetworkOf inputs all → all.time ≡ 0
@@ -94,7 +100,7 @@ module _ (inputs : Inputs) (all : NetworkState) (quiet : (t k : ℕ) → t + k <
     key one = one.cycle
 
     abbrev asks-at : ℕ → Type 0
-    asks-at t = HasAsker all.components.lanes all.stimuli.takes
+    asks-at t = HasAsker all.components.channel_states all.stimuli.takes
         (passed key all.time all.stimuli.takes) t
 
     iff : (k : ℕ) → all.time + k < inputs.cycles → AreStill k all
@@ -106,72 +112,79 @@ module _ (inputs : Inputs) (all : NetworkState) (quiet : (t k : ℕ) → t + k <
 
     -- Where no word is offered and no switch does anything, no session goes but in cycle 0.
     ungone : all.time < inputs.cycles
-        → All (λ window. IsWithin window all.time → ⊥) all.stimuli.schedule.windows
-        → 0 < all.time → goings_in all.stimuli all.time ≡ []
+        → All (λ window. IsInWindow window all.time → ⊥) all.stimuli.schedule.windows
+        → 0 < all.time → session_starts_in all.stimuli all.time ≡ []
     ungone early none late =
         let same = stimuli-are ∙ first-stimuli inputs all.routing all.time in
-        ap (λ (s : Stimuli). goings_in s all.time) same
-        ∙ no-goings inputs all.time (no-switches inputs all.time early
-        (subst (λ (s : Stimuli). All (λ window. IsWithin window all.time → ⊥) s.schedule.windows) same
+        ap (λ (s : Stimuli). session_starts_in s all.time) same
+        ∙ no-session_starts inputs all.time (no-switches inputs all.time early
+        (subst (λ (s : Stimuli). All (λ window. IsInWindow window all.time → ⊥) s.schedule.windows)
+        same
         none)) late
 
-    begun-later : goings_in all.stimuli all.time ≡ [] → offers_in all.stimuli all.time ≡ []
-        → begun all is.stimuli.take_order ≡ all.components.lanes
+    begun-later : session_starts_in all.stimuli all.time ≡ [] → offers_in all.stimuli all.time ≡ []
+        → begun all is.stimuli.take_order ≡ all.components.channel_states
     begun-later none unoffered =
         let untils = untils_in all.stimuli all.time all.untils in
-        λ i. fold (accepted_with all.time untils) (fold gone_with all.components.lanes (none i))
+        λ i. fold (accepted_with all.time untils)
+        (fold gone_with all.components.channel_states (none i))
         (unoffered i)
 
     begun-landed : all.time ≡ 0 → offers_in all.stimuli all.time ≡ []
-        → (number : ℕ) (lane : Lane)
-        → slice_get (begun all is.stimuli.take_order) number ≡ Some lane → lane.landed ≡ 0
-    begun-landed start unoffered number lane at =
+        → (number : ℕ) (channel_state : ChannelState)
+        → slice_get (begun all is.stimuli.take_order) number ≡ Some channel_state
+        → channel_state.landed ≡ 0
+    begun-landed start unoffered number channel_state at =
         let untils = untils_in all.stimuli all.time all.untils in
-        let goings = goings_in all.stimuli all.time in
-        let gone = fold gone_with all.components.lanes goings in
+        let session_starts = session_starts_in all.stimuli all.time in
+        let gone = fold gone_with all.components.channel_states session_starts in
         let words = length all.components.words in
         let parts = length all.components.parts in
         let W = HasWay words parts
         (drop (passed (λ one. one.cycle) all.time all.stimuli.offers) all.stimuli.offers) in
-        gone-landed goings all.components.lanes
-        (All-weaker W (λ (one : Going). one.lane.landed ≡ 0) (λ one way.
+        gone-landed session_starts all.components.channel_states
+        (All-weaker W (λ (one : SessionStart). one.channel_state.landed ≡ 0) (λ one way.
         let none = way.none in
         let landed = way.sound.landed in
-        let handed = way.sound.handed in
-        omega arith) goings (ways-are capacity all is))
+        let enqueued = way.sound.enqueued in
+        omega arith) session_starts (ways-are capacity all is))
         (λ k one there. first-landed inputs all.routing k one
-        (ap (λ (net : NetworkState). slice_get net.components.lanes k) (sym (begins inputs all of start))
-        ∙ there)) number lane
+        (ap (λ (net : NetworkState). slice_get net.components.channel_states k)
+        (sym (begins inputs all of start))
+        ∙ there)) number channel_state
         (ap (λ (offers : List Offer). slice_get (fold (accepted_with all.time untils) gone offers) number)
         (sym unoffered) ∙ at)
 
     -- A channel asks for nothing in a cycle where it isn't seen to.
     unasked-of : (k : ℕ) → all.time < inputs.cycles
-        → All (λ window. IsWithin window all.time → ⊥) all.stimuli.schedule.windows
+        → All (λ window. IsInWindow window all.time → ⊥) all.stimuli.schedule.windows
         → offers_in all.stimuli all.time ≡ [] → (asks-at (all.time + k) → ⊥)
-        → (number : ℕ) (lane : Lane) → slice_get (ready_lanes k all) number ≡ Some lane
-        → is_open lane (all.time + k) ≡ true → asked_of lane ≡ 0
+        → (number : ℕ) (channel_state : ChannelState)
+        → slice_get (ready_channel_states k all) number ≡ Some channel_state
+        → is_open channel_state (all.time + k) ≡ true → asked_of channel_state ≡ 0
     unasked-of k early none unoffered unseen = elim (cases_lt 0 all.time) [
       | inl late ↦ asks-seen all is.stimuli.take_order k
           (begun-later (ungone early none late) unoffered) unseen
-      | inr begin ↦ λ number lane at opened.
-          asks-first all is.stimuli.take_order (begun-landed (omega arith) unoffered) k number lane at
+      | inr begin ↦ λ number channel_state at opened.
+          asks-first all is.stimuli.take_order (begun-landed (omega arith) unoffered) k number
+          channel_state at
     ]
 
     -- And where it is seen to, it asks.
     asks-of : (k : ℕ) → all.time < inputs.cycles
-        → All (λ window. IsWithin window all.time → ⊥) all.stimuli.schedule.windows
+        → All (λ window. IsInWindow window all.time → ⊥) all.stimuli.schedule.windows
         → offers_in all.stimuli all.time ≡ []
-        → ((number : ℕ) (lane : Lane) → slice_get (ready_lanes k all) number ≡ Some lane
-        → is_open lane (all.time + k) ≡ true → asked_of lane ≡ 0)
+        → ((number : ℕ) (channel_state : ChannelState)
+        → slice_get (ready_channel_states k all) number ≡ Some channel_state
+        → is_open channel_state (all.time + k) ≡ true → asked_of channel_state ≡ 0)
         → asks-at (all.time + k) → ⊥
     asks-of k early none unoffered unasked has = elim (cases_lt 0 all.time) [
       | inl late ↦ seen-asks all is.stimuli.take_order k
           (begun-later (ungone early none late) unoffered) unasked has
       | inr begin ↦
           let start : all.time ≡ 0 = omega arith in
-          let landed = first-landed inputs all.routing has.number has.lane
-          (ap (λ (net : NetworkState). slice_get net.components.lanes has.number)
+          let landed = first-landed inputs all.routing has.number has.channel_state
+          (ap (λ (net : NetworkState). slice_get net.components.channel_states has.number)
           (sym (begins inputs all of start)) ∙ has.at) in
           let waits = has.asks.waits in
           absurd (omega arith)
@@ -189,9 +202,9 @@ module _ (inputs : Inputs) (all : NetworkState) (quiet : (t k : ℕ) → t + k <
           not-empty (offers_in all.stimuli t) (λ has. row.before t since less (inl has))
 
       no-window : (t : ℕ) → all.time ≤ t → t < b
-          → All (λ window. IsWithin window t → ⊥) all.stimuli.schedule.windows
+          → All (λ window. IsInWindow window t → ⊥) all.stimuli.schedule.windows
       no-window t since less =
-          all_from_places (λ (one : Window). IsWithin one t → ⊥) all.stimuli.schedule.windows
+          all_from_places (λ (one : Window). IsInWindow one t → ⊥) all.stimuli.schedule.windows
           (λ number one at within. row.before t since less
           (inr (record { number = number; window = one; at = at; within = within })))
 
@@ -252,9 +265,9 @@ module _ (inputs : Inputs) (all : NetworkState) (quiet : (t k : ℕ) → t + k <
                   elim (row.holds (omega arith)) [
                     | inl offered ↦ offered (ap (offers_in all.stimuli) same ∙ quiet.unoffered)
                     | inr has ↦
-                        All-slice_get (λ (one : Window). IsWithin one (all.time + k) → ⊥)
+                        All-slice_get (λ (one : Window). IsInWindow one (all.time + k) → ⊥)
                         all.stimuli.schedule.windows has.number has.window quiet.unswitched has.at
-                        (subst (IsWithin has.window) same has.within)
+                        (subst (IsInWindow has.window) same has.within)
                   ]
             ]
           ]
@@ -294,7 +307,7 @@ module _ (inputs : Inputs) (all : NetworkState) (quiet : (t k : ℕ) → t + k <
 -- Of accepted inputs it is the next cycle of their run that isn't idle.
 module _ (inputs : Inputs) (all : NetworkState) (of : IsNetworkOf inputs all)
     (law : (t : ℕ) → t < inputs.cycles → IsStill (played t (first_network inputs all.routing))
-    ↔ IsIdle (run_of inputs) t) where
+    ↔ IsIdleCycle (run_of inputs) t) where
   -- Behind so many cycles more the network is the first one behind all of them.
   behind-all : (later t : ℕ) → all.time + later ≡ t
       → played later all ≡ played t (first_network inputs all.routing)

@@ -7,7 +7,7 @@ use Rattle.aeth_schedule.specs.{Rooms.rooms_of, Switching.loaded_of, Values.valu
 use Rattle.aeth_running.proofs.Played.{stepped-log, stepped-routing, stepped-time}
 use Rattle.aeth_running.specs.{Lossless.LosesNothing, Network.NetworkState, Network.first_network}
 use Rattle.aeth_running.specs.{Network.played, Network.stepped, Routing.IsRoutingFor}
-use Rattle.aeth_running.specs.{Routing.Routing, Told.network_log, Told.told}
+use Rattle.aeth_running.specs.{Routing.Routing, Logged.network_log, Logged.logged}
 use Rattle.aeth_network.{specs.Runs.IsNetworkOf, proofs.FirstComponents.loaded-size}
 
 -- No cycle, and one more.
@@ -47,15 +47,15 @@ played-left old new is =
     omega arith
 
 pub played-same : (old new : NetworkState) → new ≡ played (old.log.cycles - old.time) old
-    → told (played (new.log.cycles - new.time) new)
-    ≡ told (played (old.log.cycles - old.time) old)
+    → logged (played (new.log.cycles - new.time) new)
+    ≡ logged (played (old.log.cycles - old.time) old)
 played-same old new is =
-    ap told (played-none (new.log.cycles - new.time) new (played-left old new is) ∙ is)
+    ap logged (played-none (new.log.cycles - new.time) new (played-left old new is) ∙ is)
 
 -- The network of inputs plays all their cycles.
 pub first-plays : (inputs : Inputs) (routing : Routing) (network : NetworkState)
     → network ≡ first_network inputs routing
-    → told (played (network.log.cycles - network.time) network) ≡ network_log inputs routing
+    → logged (played (network.log.cycles - network.time) network) ≡ network_log inputs routing
 unfolding first_network network_log
 first-plays inputs routing network is =
     let all : inputs.cycles - 0 ≡ inputs.cycles = omega arith in
@@ -165,9 +165,9 @@ done-of inputs old new is of =
       omega arith,
     )
 
--- Then it tells the log of the network of the inputs.
+-- Then it gives the log of the network of the inputs.
 pub log-of : (inputs : Inputs) (all : NetworkState) → IsNetworkOf inputs all
-    → all.time ≡ inputs.cycles → told all ≡ network_log inputs all.routing
+    → all.time ≡ inputs.cycles → logged all ≡ network_log inputs all.routing
 unfolding network_log
 log-of inputs all is done =
-    ap told (is.is ∙ ap (λ n. played n (first_network inputs all.routing)) done)
+    ap logged (is.is ∙ ap (λ n. played n (first_network inputs all.routing)) done)

@@ -5,11 +5,12 @@ use Rattle.std.proofs.Common.{true, slice_range}
 use Rattle.std.proofs.lemmas.Bool.{cases_lt, Decides.nat_tests}
 use Rattle.std.proofs.lemmas.List.{drop_more, Sums.fold-append}
 use Rattle.std.specs.List.Sorted.{IsNonDecreasingBy}
-use Rattle.aeth_components.specs.{First.IsFirst, Lanes.is_open, declared.lane.Lane.Lane}
+use Rattle.aeth_components.specs.{First.IsFirst, ChannelStates.is_open}
+use Rattle.aeth_components.specs.{declared.channel_state.ChannelState.ChannelState}
 use Rattle.aeth_stimuli.specs.Stimuli.{Take}
 use Rattle.aeth_network.specs.{Behind.passed, Next.AsksIn, Next.pull_behind}
 use Rattle.aeth_network.proofs.{Firsts.slice-append, KnownFirsts.first-of, KnownFirsts.known-none}
-use Rattle.aeth_network.proofs.{Passed.passed-at, RestingLanes.passed-rises}
+use Rattle.aeth_network.proofs.{Passed.passed-at, RestingChannelStates.passed-rises}
 
 -- The cycle of a row.
 abbrev pub cycle_of : Take → ℕ
@@ -90,8 +91,8 @@ module _ (number first : ℕ) (takes : List Take) (rises : IsNonDecreasingBy cyc
         late = omega arith;
         gone = omega arith;
         now = next;
-        none = λ t early going less. elim (cases_lt t since) [
-          | inl before ↦ so.none t early going before
+        none = λ t early session_start less. elim (cases_lt t since) [
+          | inl before ↦ so.none t early session_start before
           | inr since_then ↦ elim rests [
             | inr soon ↦ absurd (omega arith)
             | inl nothing ↦
@@ -119,7 +120,7 @@ pulled-first number first takes rises time place go since is within since_is =
       late = omega arith;
       gone = omega arith;
       now = sym empty;
-      none = λ t early going less. absurd (omega arith);
+      none = λ t early session_start less. absurd (omega arith);
       held = λ t since most.
           let next : (t + 1 - time) + time ≡ t + 1 = omega arith in
           let more = passed-rises cycle_of time (t + 1 - time) takes in
@@ -130,21 +131,22 @@ pulled-first number first takes rises time place go since is within since_is =
     }
 
 -- Behind the last row that counts.
-module _ (lane : Lane) (number : ℕ) (takes : List Take) (time to place since at pull : ℕ)
-    (le : time ≤ to) (waits : lane.taken < lane.landed)
-    (so : IsPulled number lane.pull takes time place lane.go since at pull) where
+module _ (channel_state : ChannelState) (number : ℕ) (takes : List Take)
+    (time to place since at pull : ℕ)
+    (le : time ≤ to) (waits : channel_state.taken < channel_state.landed)
+    (so : IsPulled number channel_state.pull takes time place channel_state.go since at pull) where
   abbrev end : ℕ
-  end = min to lane.fin
+  end = min to channel_state.fin
 
-  open-from : (t : ℕ) → is_open lane t ≡ true → lane.go ≤ t
+  open-from : (t : ℕ) → is_open channel_state t ≡ true → channel_state.go ≤ t
   open-from t opened = grind (arith, nat_tests)
 
-  open-below : (t : ℕ) → is_open lane t ≡ true → t < lane.fin
+  open-below : (t : ℕ) → is_open channel_state t ≡ true → t < channel_state.fin
   open-below t opened = grind (arith, nat_tests)
 
   -- The receiver takes none.
   pub pulls-never : (0 < pull → end ≤ since) → (pull ≡ 0 → passed cycle_of end takes ≤ at)
-      → IsFirst (AsksIn lane number takes place) time to to
+      → IsFirst (AsksIn channel_state number takes place) time to to
   pulls-never late all = first-of (known-none le (λ t from less asks.
       let go = open-from t asks.opened in
       let fin = open-below t asks.opened in

@@ -2,14 +2,14 @@
 use Rattle.std.proofs.Common.{◌≡◌, ◌≤◌, ◌<◌, ◌+◌, ◌-◌, ◌==◌, ◌∙◌, ℕ, List, [], ap, arith, drop}
 use Rattle.std.proofs.Common.{filter, sym, take, slice_range}
 use Rattle.std.specs.List.Sorted.{IsNonDecreasingBy}
-use Rattle.aeth_schedule.specs.declared.going.Going.{Going}
+use Rattle.aeth_schedule.specs.declared.session_start.SessionStart.{SessionStart}
 use Rattle.aeth_stimuli.specs.{Stimuli.Take, Events.events_in}
 use Rattle.aeth_running.specs.{Network.NetworkState, Routing.Entering, Routing.later_rows}
 use Rattle.aeth_network.specs.{Behind.passed, Brought.BringsWords, Cursors.AreCursors}
 use Rattle.aeth_network.specs.{Cursors.AreInOrder, declared.given.Cursors.Cursors}
 use Rattle.aeth_network.proofs.{MappedRows.events-range, Passed.passed-first, Passed.passed-range}
-use Rattle.aeth_network.proofs.{Ready.length-in, RestingLanes.passed-rises, Skipping.events-still}
-use Rattle.aeth_network.proofs.{WindowLemmas.over-later}
+use Rattle.aeth_network.proofs.{Ready.length-in, RestingChannelStates.passed-rises}
+use Rattle.aeth_network.proofs.{Skipping.events-still, WindowLemmas.over-later}
 
 -- As many rows lie before a later cycle, or more.
 pub passed-to : {X : Type 0} (key : X → ℕ) (from to : ℕ) (xs : List X) → from ≤ to
@@ -68,8 +68,9 @@ brings-words cursors all order at before =
       eventless = sym (events-range t cycles events order.event_cycles order.events)
           ∙ range-none events (passed cycle t cycles) (passed cycle (t + 1) cycles)
           (no-more cycle t until cursors.event cycles at.event_is at.quiet.events before);
-      ungone = none-now (λ (one : Going). one.lane.go) t until cursors.going
-          all.stimuli.schedule.goings at.going_is at.quiet.goings before order.goings;
+      ungone = none-now (λ (one : SessionStart). one.channel_state.go) t until cursors.session_start
+          all.stimuli.schedule.session_starts at.session_start_is at.quiet.session_starts before
+          order.session_starts;
       untaken = none-now (λ (one : Take). one.cycle) t until cursors.take all.stimuli.takes
           at.take_is at.quiet.takes before order.takes;
       unentered = none-now (λ (one : Entering). one.cycle) t until cursors.entering
@@ -91,7 +92,7 @@ pub cursors-words : (cursors : Cursors) (all : NetworkState) (last : ℕ)
 cursors-words cursors all last order at brings is =
     let t = all.time in
     let quiet = at.quiet in
-    let going = λ (one : Going). one.lane.go in
+    let session_start = λ (one : SessionStart). one.channel_state.go in
     let taking = λ (one : Take). one.cycle in
     let entering = λ (one : Entering). one.cycle in
     record {
@@ -99,7 +100,9 @@ cursors-words cursors all last order at brings is =
           (λ j less.
           let same : t + j ≡ t = omega arith in
           ap (events_in all.stimuli) same ∙ brings.eventless));
-      going_is = at.going_is ∙ sym (passed-next going t all.stimuli.schedule.goings order.goings brings.ungone);
+      session_start_is = at.session_start_is
+          ∙ sym (passed-next session_start t all.stimuli.schedule.session_starts
+          order.session_starts brings.ungone);
       offer_is = is;
       take_is = at.take_is ∙ sym (passed-next taking t all.stimuli.takes order.takes brings.untaken);
       window_is = over-later cursors.window t (t + 1) all.stimuli.schedule.windows (omega arith)
@@ -108,7 +111,7 @@ cursors-words cursors all last order at brings is =
           ∙ sym (passed-next entering t (later_rows all.routing) order.enterings brings.unentered);
       quiet = record {
         events = quiet.events;
-        goings = quiet.goings;
+        session_starts = quiet.session_starts;
         takes = quiet.takes;
         enterings = quiet.enterings;
       };

@@ -7,9 +7,9 @@ use Rattle.aeth_chip.specs.{Paths.delay_of, Wires.wire_at}
 use Rattle.aeth_clocked.specs.{Wires.flit_on, declared.flit.Flit.Flit}
 use Rattle.aeth_ni.specs.Component.{Arrival, arrival_of}
 use Rattle.aeth_report.specs.Carries.{carries}
-use Rattle.aeth_refinement.specs.{Carried.IsPassed, Fabric.AtRouter}
+use Rattle.aeth_invariant.specs.{Carried.IsPassed, RoutedSessions.AtRouter}
 use Rattle.aeth_accepted.specs.Inputs.{Inputs, run_of}
-use Rattle.aeth_fabric.specs.Fabric.{fabric_of}
+use Rattle.aeth_routed_sessions.specs.RoutedSessions.{routed_sessions_of}
 use Rattle.aeth_running.specs.{Network.first_network, Network.played, Routing.Routing}
 use Rattle.aeth_network.specs.Runs.{AreWiresOf}
 
@@ -31,8 +31,9 @@ module _ (inputs : Inputs) (routing : Routing) where
         → flit_on (wires_behind (t + 1)) (wire_at inputs.chip.links link.0 k) ≡ None
     pub empty : (l : ℕ) → flit_on (wires_behind 0) l ≡ None
     pub passed : (t : ℕ) → t < inputs.cycles → (m r : ℕ) (flit : Flit)
-        → (fabric_of inputs).end m ≡ AtRouter r → flit_on (wires_behind (t + 1)) m ≡ Some flit
-        → IsPassed (fabric_of inputs) (flit_on (wires_behind (t + 1))) m r flit
+        → (routed_sessions_of inputs).end m ≡ AtRouter r
+        → flit_on (wires_behind (t + 1)) m ≡ Some flit
+        → IsPassed (routed_sessions_of inputs) (flit_on (wires_behind (t + 1))) m r flit
     pub read : (t : ℕ) → t < inputs.cycles → (l : ℕ) (flit : Flit)
         → flit_on (wires_behind (t + 1)) l ≡ Some flit
         → (arrival : Arrival) × (arrival_of (Some flit) ≡ Some arrival)
@@ -71,7 +72,7 @@ module _ (inputs : Inputs) (routing : Routing) where
       empty = λ l at. absurd (omega arith);
       passed = λ m r flit ends on.
           subst (λ (list : List (Option Flit)).
-          IsPassed (fabric_of inputs) (flit_on list) m r flit) (sym are)
+          IsPassed (routed_sessions_of inputs) (flit_on list) m r flit) (sym are)
           (laws.passed t early m r flit ends
           (subst (λ (list : List (Option Flit)). flit_on list m ≡ Some flit) are on));
       read = λ l flit on.

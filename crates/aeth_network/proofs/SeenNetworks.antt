@@ -28,7 +28,7 @@ pub in-order : (capacity : ℕ) (all : NetworkState) → IsNetwork capacity all
 in-order capacity all is = record {
   event_cycles = is.stimuli.event_cycles;
   events = is.stimuli.event_order;
-  goings = is.stimuli.going_order;
+  session_starts = is.stimuli.session_start_order;
   offers = is.stimuli.offer_order;
   takes = is.stimuli.take_order;
   enterings = is.enterings;
@@ -54,7 +54,7 @@ IsNetwork-more capacity more all le is =
       replaced = is.replaced;
       gone = is.gone;
       enough = omega arith;
-      few_goings = is.few_goings;
+      few_session_starts = is.few_session_starts;
       few_channels = is.few_channels;
       few_words = is.few_words;
       few_parts = is.few_parts;

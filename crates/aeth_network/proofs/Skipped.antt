@@ -3,7 +3,7 @@ use Rattle.std.proofs.Common.{◌≡◌, ◌≤◌, ◌<◌, ◌+◌, ◌-◌, �
 use Rattle.std.proofs.Common.{subst, sym, slice_range, vec_capacity}
 use Rattle.aeth_components.specs.Components.{ComponentsState}
 use Rattle.aeth_stimuli.specs.{Stimuli.Take, Events.events_in}
-use Rattle.aeth_running.specs.Network.{NetworkState, goings_in, offers_in, played, stepped}
+use Rattle.aeth_running.specs.Network.{NetworkState, session_starts_in, offers_in, played, stepped}
 use Rattle.aeth_running.specs.Network.{takes_in, taking_with, first_network}
 use Rattle.aeth_running.specs.Routing.{Routing, enterings_in}
 use Rattle.aeth_running.specs.Quiet.{AreStill, brought_over, rested}
@@ -55,14 +55,14 @@ none-enter inputs all of k still within j less =
 pub brought-is : (all : Inside) → IsNetwork (vec_capacity all.state.replaced) (seen all)
     → (has : HasInputs (seen all)) → RestsOnce has.inputs (routing_with all.given)
     → IsStill (seen all) → all.time < all.log.cycles → (rows : CycleRows)
-    → rows.goings ≡ goings_in (stimuli_with all.given) all.time
+    → rows.session_starts ≡ session_starts_in (stimuli_with all.given) all.time
     → rows.offers.now ≡ offers_in (stimuli_with all.given) all.time
     → rows.takes.now ≡ takes_in (stimuli_with all.given) all.time
     → rows.events.now ≡ events_in (stimuli_with all.given) all.time
     → (brought : State) → IsBrought rows all.time all.state brought
     → seen_next all brought ≡ stepped (seen all)
-brought-is all is has one still early rows goings offers takes events brought brings =
-    over all is rows goings offers takes brought brings events
+brought-is all is has one still early rows session_starts offers takes events brought brings =
+    over all is rows session_starts offers takes brought brings events
     (still-enters has.inputs (seen all) has.of still early)
     ∙ sym (over-stepped has.inputs (seen all) has.of one still early)
 
@@ -103,14 +103,16 @@ module _ (capacity : ℕ) (old : NetworkState) (is : IsNetwork capacity old) (ha
       → first ≡ passed (λ one. one.cycle) old.time old.stimuli.takes
       → last ≡ passed (λ one. one.cycle) to old.stimuli.takes
       → components ≡ record old.components {
-        lanes = fold taking_with old.components.lanes (slice_range rows first last);
+        channel_states =
+            fold taking_with old.components.channel_states (slice_range rows first last);
       }
       → Becomes capacity (record old { components = components; time = to }) (played count old)
   rests-behind later components rows first last rows_are first_is last_is are =
       let resting = λ (n : ℕ).
       let one : NetworkState = record old {
         components = record old.components {
-          lanes = fold taking_with old.components.lanes (slice_range old.stimuli.takes
+          channel_states =
+              fold taking_with old.components.channel_states (slice_range old.stimuli.takes
               (passed (λ one. one.cycle) old.time old.stimuli.takes)
               (passed (λ one. one.cycle) n old.stimuli.takes));
         };

@@ -3,11 +3,11 @@ use Rattle.std.proofs.Common.{◌≡◌, ◌≤◌, ◌<◌, ◌+◌, ◌-◌, �
 use Rattle.std.proofs.Common.{drop, filter, fold, length, refl, subst, sym, take, slice_range}
 use Rattle.std.proofs.Common.{length-drop, length-take}
 use Rattle.std.specs.List.Sorted.{IsNonDecreasingBy}
-use Rattle.aeth_components.specs.declared.lane.Lane.{Lane}
-use Rattle.aeth_schedule.specs.declared.going.Going.{Going}
+use Rattle.aeth_components.specs.declared.channel_state.ChannelState.{ChannelState}
+use Rattle.aeth_schedule.specs.declared.session_start.SessionStart.{SessionStart}
 use Rattle.aeth_stimuli.specs.{Stimuli.Offer, Stimuli.Stimuli, Stimuli.Take, Events.events_in}
-use Rattle.aeth_running.proofs.{KeptLanes.cycle-behind, Played.played-next}
-use Rattle.aeth_running.specs.Network.{NetworkState, goings_in, offers_in, played, ready_in}
+use Rattle.aeth_running.proofs.{KeptChannelStates.cycle-behind, Played.played-next}
+use Rattle.aeth_running.specs.Network.{NetworkState, session_starts_in, offers_in, played, ready_in}
 use Rattle.aeth_running.specs.Network.{state_behind, stepped, taking_with, first_network}
 use Rattle.aeth_running.specs.Routing.{Entering, Routing, enterings_in, later_rows}
 use Rattle.aeth_running.specs.Quiet.{AreStill, brought_over, rested}
@@ -17,9 +17,9 @@ use Rattle.aeth_network.specs.{Behind.passed, Cursors.AreCursors, Cursors.AreInO
 use Rattle.aeth_network.specs.{Networks.IsNetwork, declared.given.Cursors.Cursors, Runs.IsNetworkOf}
 use Rattle.aeth_network.proofs.{MappedRows.events-range, Firsts.fold-slices, Passed.passed-few}
 use Rattle.aeth_network.proofs.{Passed.passed-more, Passed.passed-range, NextBusy.played-sum}
-use Rattle.aeth_network.proofs.{Playing.cycles-of, Playing.played-time, RestingLanes.passed-rises}
-use Rattle.aeth_network.proofs.{Stepping.IsNetwork-behind, Stepping.behind-is, Ready.length-in}
-use Rattle.aeth_network.proofs.{WindowLemmas.over-later}
+use Rattle.aeth_network.proofs.{Playing.cycles-of, Playing.played-time}
+use Rattle.aeth_network.proofs.{RestingChannelStates.passed-rises, Stepping.IsNetwork-behind}
+use Rattle.aeth_network.proofs.{Stepping.behind-is, Ready.length-in, WindowLemmas.over-later}
 
 -- What holds of networks holds behind one more cycle, and behind so many.
 pub IsNetwork-stepped : (capacity : ℕ) (old : NetworkState) → IsNetwork capacity old
@@ -90,7 +90,8 @@ events-still all routing order t (suc k) none =
 pub rested-is : (all : NetworkState)
     → IsNonDecreasingBy (λ (one : Take). one.cycle) all.stimuli.takes → (k : ℕ) → rested k all ≡ record all {
       components = record all.components {
-        lanes = fold taking_with all.components.lanes (slice_range all.stimuli.takes
+        channel_states =
+            fold taking_with all.components.channel_states (slice_range all.stimuli.takes
             (passed (λ one. one.cycle) all.time all.stimuli.takes)
             (passed (λ one. one.cycle) (all.time + k) all.stimuli.takes));
       };
@@ -105,12 +106,12 @@ rested-is all rises zero =
     let none : 0 ≡ from - from = omega arith in
     ap (λ n. record all {
       components = record all.components {
-        lanes = fold taking_with all.components.lanes (take n (drop from takes));
+        channel_states = fold taking_with all.components.channel_states (take n (drop from takes));
       };
     }) none
     ∙ (λ i. record all {
       components = record all.components {
-        lanes = fold taking_with all.components.lanes
+        channel_states = fold taking_with all.components.channel_states
             (slice_range takes from (passed key (same i) takes));
       };
       time = same i;
@@ -123,20 +124,20 @@ rested-is all rises (suc k) =
     let low : from ≤ middle = passed-rises key all.time k takes in
     let high = passed-more key (all.time + k) takes in
     let next : all.time + k + 1 ≡ all.time + suc k = omega arith in
-    let made = λ (lanes : List Lane) (time : ℕ).
+    let made = λ (channel_states : List ChannelState) (time : ℕ).
     let one : NetworkState = record all {
-      components = record all.components { lanes = lanes };
+      components = record all.components { channel_states = channel_states };
       time = time;
     } in
     one in
-    let first = fold taking_with all.components.lanes (slice_range takes from middle) in
+    let first = fold taking_with all.components.channel_states (slice_range takes from middle) in
     ap passed_over (rested-is all rises k)
     ∙ ap (λ (rows : List Take). made (fold taking_with first rows) (all.time + k + 1))
     (sym (passed-range key (all.time + k) takes rises))
-    ∙ ap (λ (lanes : List Lane). made lanes (all.time + k + 1))
-    (fold-slices taking_with all.components.lanes takes from middle
+    ∙ ap (λ (channel_states : List ChannelState). made channel_states (all.time + k + 1))
+    (fold-slices taking_with all.components.channel_states takes from middle
     (passed key (all.time + k + 1) takes) low high)
-    ∙ ap (λ n. made (fold taking_with all.components.lanes
+    ∙ ap (λ n. made (fold taking_with all.components.channel_states
     (slice_range takes from (passed key n takes))) n) next
 
 -- The places in what is given, behind cycles that left a network.
@@ -148,11 +149,11 @@ module _ (all : NetworkState) (order : AreInOrder all.stimuli all.routing) (k : 
       (λ i. offers_in (sym (played-given j all) i) (sym (played-time j all) i))
       ∙ (still j less).unoffered
 
-  no-goings : (j : ℕ) → j < k → goings_in all.stimuli (all.time + j) ≡ []
-  no-goings j less =
+  no-session_starts : (j : ℕ) → j < k → session_starts_in all.stimuli (all.time + j) ≡ []
+  no-session_starts j less =
       let start = late (omega arith) in
       let time = played-time j all in
-      (λ i. goings_in (sym (played-given j all) i) (sym (played-time j all) i))
+      (λ i. session_starts_in (sym (played-given j all) i) (sym (played-time j all) i))
       ∙ (still j less).ungone (omega arith)
 
   no-events : (j : ℕ) → j < k → events_in all.stimuli (all.time + j) ≡ []
@@ -165,8 +166,8 @@ module _ (all : NetworkState) (order : AreInOrder all.stimuli all.routing) (k : 
       → last ≡ passed (λ one. one.cycle) (all.time + k) all.stimuli.takes
       → AreCursors (record cursors { take = last }) (all.time + k) all.stimuli all.routing
   cursors-behind cursors last at is =
-      let goings = passed-still (λ (one : Going). one.lane.go) all.time k
-      all.stimuli.schedule.goings order.goings no-goings in
+      let session_starts = passed-still (λ (one : SessionStart). one.channel_state.go) all.time k
+      all.stimuli.schedule.session_starts order.session_starts no-session_starts in
       let offers = passed-still (λ (one : Offer). one.cycle) all.time k all.stimuli.offers
       order.offers no-offers in
       let events = events-still all.stimuli all.routing order all.time k no-events in
@@ -178,7 +179,7 @@ module _ (all : NetworkState) (order : AreInOrder all.stimuli all.routing) (k : 
       let takes_quiet = quiet.takes in
       record {
         event_is = at.event_is ∙ sym events;
-        going_is = at.going_is ∙ sym goings;
+        session_start_is = at.session_start_is ∙ sym session_starts;
         offer_is = at.offer_is ∙ sym offers;
         take_is = is;
         window_is = over-later cursors.window all.time (all.time + k) all.stimuli.schedule.windows
@@ -186,7 +187,7 @@ module _ (all : NetworkState) (order : AreInOrder all.stimuli all.routing) (k : 
         entering_is = at.entering_is ∙ sym enterings;
         quiet = record {
           events = quiet.events;
-          goings = quiet.goings;
+          session_starts = quiet.session_starts;
           takes = omega (arith, takes_quiet, taken, takes, is);
           enterings = quiet.enterings;
         };

@@ -8,7 +8,7 @@ use Rattle.aeth_base.proofs.Members.{All-slice_get}
 use Rattle.aeth_trace.proofs.OrderLemmas.{first_least, later_rise, rise-cons}
 use Rattle.aeth_trace.specs.{Spans.SpanData, declared.switches.SwitchRow.SwitchRow}
 use Rattle.aeth_accepted.specs.Inputs.{Inputs, run_of}
-use Rattle.aeth_schedule.specs.{Switching.switches_from, Windows.IsWithin, Windows.StopsChannels}
+use Rattle.aeth_schedule.specs.{Switching.switches_from, Windows.IsInWindow, Windows.StopsChannels}
 use Rattle.aeth_schedule.specs.{Windows.StopsWords, Windows.Writes, Windows.window_by}
 use Rattle.aeth_schedule.specs.{Windows.windows_over, declared.windows.Window.Window}
 use Rattle.aeth_stimuli.specs.Stimuli.{Stimuli}
@@ -24,7 +24,7 @@ begin_of window = window.until
 abbrev Begins : Window → Type 0
 Begins window = (window.until ≤ window.stop) × (window.until ≤ window.fin)
 
-within-from : (window : Window) (t : ℕ) → Begins window → IsWithin window t → window.until ≤ t
+within-from : (window : Window) (t : ℕ) → Begins window → IsInWindow window t → window.until ≤ t
 within-from window t begins is =
     let stop = begins.0 in
     let fin = begins.1 in
@@ -34,7 +34,7 @@ within-from window t begins is =
       | Writes low high ↦ omega arith
     ]
 
-pub within-to : (window : Window) (t : ℕ) → IsWithin window t
+pub within-to : (window : Window) (t : ℕ) → IsInWindow window t
     → t ≤ max (max window.until window.stop) window.go
 within-to window t is = elim is [
   | StopsWords now ↦ omega arith
@@ -98,7 +98,7 @@ given-ascend inputs all of =
 -- Windows that don't begin before a cycle have none before it.
 pub begins-late : (windows : List Window) → AreAscending windows → (limit number t : ℕ)
     (window : Window) → passed begin_of limit windows ≤ number
-    → slice_get windows number ≡ Some window → t < limit → IsWithin window t → ⊥
+    → slice_get windows number ≡ Some window → t < limit → IsInWindow window t → ⊥
 begins-late windows ascend limit number t window past at less is =
     let begins = All-slice_get Begins windows number window ascend.begins at in
     let from = within-from window t begins is in

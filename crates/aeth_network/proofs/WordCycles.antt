@@ -3,10 +3,12 @@ use Rattle.std.proofs.Common.{◌≡◌, ◌+◌, ◌==◌, ◌++◌, ◌∙◌,
 use Rattle.std.proofs.Common.{subst, sym, slice_range, vec_capacity, append-nil}
 use Rattle.std.specs.List.{slice_index_or}
 use Rattle.aeth_trace.specs.Channels.{channel_number}
-use Rattle.aeth_components.specs.Components.{ComponentsState, Cycle}
-use Rattle.aeth_components.specs.declared.{event.Event.Event, lane.Lane.Lane}
-use Rattle.aeth_schedule.specs.declared.going.Going.{Going}
-use Rattle.aeth_stimuli.specs.{Loaded.no_lane, Stimuli.Offer, Stimuli.Take, Events.events_in}
+use Rattle.aeth_components.specs.Components.{ComponentsState, ComponentsCycle}
+use Rattle.aeth_components.specs.declared.event.Event.{Event}
+use Rattle.aeth_components.specs.declared.channel_state.ChannelState.{ChannelState}
+use Rattle.aeth_schedule.specs.declared.session_start.SessionStart.{SessionStart}
+use Rattle.aeth_stimuli.specs.{Loaded.no_channel_state, Stimuli.Offer, Stimuli.Take}
+use Rattle.aeth_stimuli.specs.{Events.events_in}
 use Rattle.aeth_running.specs.Network.{NetworkState, accepted_with, gone_with, offers_in}
 use Rattle.aeth_running.specs.Network.{outside_with, ready_in, stepped, taking_with, until_with}
 use Rattle.aeth_running.specs.Routing.{Entering, entered_with}
@@ -31,41 +33,45 @@ module _ (all : Inside) (is : IsNetwork (vec_capacity all.state.replaced) (seen 
 
   -- They have room in the channels as they stand.
   pub fit-words : AreFit (length old.components.words) (length old.components.parts) old.untils
-      (offers_in old.stimuli old.time) old.components.lanes
+      (offers_in old.stimuli old.time) old.components.channel_states
   fit-words =
-      subst (λ (goings : List Going). AreFit (length old.components.words)
-      (length old.components.parts) (fold until_with old.untils goings)
-      (offers_in old.stimuli old.time) (fold gone_with old.components.lanes goings)) brings.ungone
+      subst (λ (session_starts : List SessionStart). AreFit (length old.components.words)
+      (length old.components.parts) (fold until_with old.untils session_starts)
+      (offers_in old.stimuli old.time)
+      (fold gone_with old.components.channel_states session_starts)) brings.ungone
       (fit-started all is)
 
   -- The components once these rows have come beside the words.
-  abbrev ready_with : List Going → List Take → List Entering → ComponentsState
-  ready_with goings takes enterings = record old.components {
+  abbrev ready_with : List SessionStart → List Take → List Entering → ComponentsState
+  ready_with session_starts takes enterings = record old.components {
     parts = fold entered_with old.components.parts enterings;
-    lanes = fold taking_with (fold (accepted_with old.time (fold until_with old.untils goings))
-        (fold gone_with old.components.lanes goings) (offers_in old.stimuli old.time)) takes;
+    channel_states =
+        fold taking_with (fold (accepted_with old.time (fold until_with old.untils session_starts))
+        (fold gone_with old.components.channel_states session_starts)
+        (offers_in old.stimuli old.time)) takes;
   }
 
   -- A network whose components are these behind a cycle in which these sessions go.
-  abbrev behind_with : ComponentsState → List Going → NetworkState
-  behind_with new goings = record old {
+  abbrev behind_with : ComponentsState → List SessionStart → NetworkState
+  behind_with new session_starts = record old {
     components = new;
-    untils = fold until_with old.untils goings;
-    outside = fold (outside_with old.time (fold until_with old.untils goings)) old.outside
+    untils = fold until_with old.untils session_starts;
+    outside = fold (outside_with old.time (fold until_with old.untils session_starts)) old.outside
         (offers_in old.stimuli old.time);
     replaced = old.replaced
-        ++ map (λ one. slice_index_or old.components.lanes (channel_number one.channel) no_lane)
-        goings;
+        ++ map (λ one. slice_index_or old.components.channel_states (channel_number one.channel)
+        no_channel_state)
+        session_starts;
     time = old.time + 1;
   }
 
   -- Once the words are offered, and the components did a cycle with no events, the cycle is done.
   pub words-stepped : (offered new : ComponentsState) (next : State)
       → offered ≡ record old.components {
-        lanes = fold (accepted_with old.time old.untils) old.components.lanes
+        channel_states = fold (accepted_with old.time old.untils) old.components.channel_states
             (offers_in old.stimuli old.time);
       }
-      → Cycle [] old.time offered new → next.components ≡ new
+      → ComponentsCycle [] old.time offered new → next.components ≡ new
       → next.untils.items ≡ old.untils → next.replaced.items ≡ old.replaced
       → next.outside.items
       ≡ fold (outside_with old.time old.untils) old.outside (offers_in old.stimuli old.time)
@@ -74,12 +80,12 @@ module _ (all : Inside) (is : IsNetwork (vec_capacity all.state.replaced) (seen 
       let ready : offered ≡ ready_in old =
       offers ∙ (λ i. ready_with (sym brings.ungone i) (sym brings.untaken i)
       (sym brings.unentered i)) in
-      let done : Cycle (events_in old.stimuli old.time) old.time (ready_in old) new =
-      subst (λ (events : List Event). Cycle events old.time (ready_in old) new)
+      let done : ComponentsCycle (events_in old.stimuli old.time) old.time (ready_in old) new =
+      subst (λ (events : List Event). ComponentsCycle events old.time (ready_in old) new)
       (sym brings.eventless)
-      (subst (λ (one : ComponentsState). Cycle [] old.time one new) ready did) in
+      (subst (λ (one : ComponentsState). ComponentsCycle [] old.time one new) ready did) in
       rw (components, untils, replaced, outside)
-      (ap (λ (list : List Lane). record (behind_with new []) { replaced = list })
+      (ap (λ (list : List ChannelState). record (behind_with new []) { replaced = list })
       (sym (append-nil old.replaced))
       ∙ ap (behind_with new) (sym brings.ungone)
       ∙ behind-is (vec_capacity all.state.replaced) old is new done)

@@ -3,7 +3,7 @@
 --   carried_in      the flits on all wires in so many further cycles
 -- This project's own.
 use Rattle.std.proofs.Common.{◌+◌, ℕ, zero, suc}
-use Rattle.aeth_components.specs.Turns.{flits_on}
+use Rattle.aeth_components.specs.FlitsOnWires.{flits_on}
 use Rattle.aeth_running.specs.Network.{NetworkState, played}
 
 -- The flits on all wires, summed up over so many further cycles.

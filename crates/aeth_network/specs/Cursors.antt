@@ -31,7 +31,7 @@ routing_with given = routing_in given.tables
 pub record AreInOrder (all : Stimuli) (routing : Routing) : Type 0 where
   pub event_cycles : length all.schedule.cycles ≡ length all.schedule.events
   pub events : IsNonDecreasing all.schedule.cycles
-  pub goings : IsNonDecreasingBy (λ one. one.lane.go) all.schedule.goings
+  pub session_starts : IsNonDecreasingBy (λ one. one.channel_state.go) all.schedule.session_starts
   pub offers : IsNonDecreasingBy (λ one. one.cycle) all.offers
   pub takes : IsNonDecreasingBy (λ one. one.cycle) all.takes
   pub enterings : IsNonDecreasingBy (λ one. one.cycle) (later_rows routing)
@@ -39,7 +39,8 @@ pub record AreInOrder (all : Stimuli) (routing : Routing) : Type 0 where
 -- No row but those of words lies behind the places and before the cycle that is noted beside them.
 pub record IsQuietUntil (cursors : Cursors) (all : Stimuli) (routing : Routing) : Type 0 where
   pub events : passed (λ cycle. cycle) cursors.quiet_until all.schedule.cycles ≤ cursors.event
-  pub goings : passed (λ one. one.lane.go) cursors.quiet_until all.schedule.goings ≤ cursors.going
+  pub session_starts : passed (λ one. one.channel_state.go) cursors.quiet_until
+      all.schedule.session_starts ≤ cursors.session_start
   pub takes : passed (λ one. one.cycle) cursors.quiet_until all.takes ≤ cursors.take
   pub enterings : passed (λ one. one.cycle) cursors.quiet_until (later_rows routing)
       ≤ cursors.entering
@@ -48,7 +49,8 @@ pub record IsQuietUntil (cursors : Cursors) (all : Stimuli) (routing : Routing) 
 pub record AreCursors (cursors : Cursors) (time : ℕ) (all : Stimuli) (routing : Routing) : Type 0
   where
     pub event_is : cursors.event ≡ passed (λ cycle. cycle) time all.schedule.cycles
-    pub going_is : cursors.going ≡ passed (λ one. one.lane.go) time all.schedule.goings
+    pub session_start_is : cursors.session_start
+        ≡ passed (λ one. one.channel_state.go) time all.schedule.session_starts
     pub offer_is : cursors.offer ≡ passed (λ one. one.cycle) time all.offers
     pub take_is : cursors.take ≡ passed (λ one. one.cycle) time all.takes
     pub window_is : AreOver cursors.window time all.schedule.windows

@@ -2,7 +2,7 @@
 -- This project's own.
 use Rattle.std.proofs.Common.{◌≡◌, ◌≤◌, ◌*◌, [], length, replicate, vec_capacity}
 use Rattle.aeth_accepted.specs.Inputs.{Inputs}
-use Rattle.aeth_schedule.specs.Goings.{goings_of}
+use Rattle.aeth_schedule.specs.SessionStarts.{session_starts_of}
 use Rattle.aeth_running.specs.{Network.routed_components, Routing.Routing}
 use Rattle.aeth_network.specs.declared.state.State.{State}
 
@@ -13,4 +13,4 @@ pub record IsFirstState (inputs : Inputs) (routing : Routing) (state : State) : 
   pub untils : state.untils.items ≡ replicate (2 * length inputs.app.connections) 0
   pub outside : state.outside.items ≡ replicate (2 * length inputs.app.connections) 0
   pub replaced : state.replaced.items ≡ []
-  pub capacity : length (goings_of inputs) ≤ vec_capacity state.replaced
+  pub capacity : length (session_starts_of inputs) ≤ vec_capacity state.replaced

@@ -10,5 +10,5 @@ pub mod Next
 pub mod Records
 pub mod Routes
 pub mod Runs
-pub mod Telling
+pub mod Logging
 pub mod Windows

@@ -8,7 +8,8 @@ use Rattle.std.specs.List.Sorted.{IsNonDecreasingBy}
 use Rattle.aeth_base.specs.Limits.{max_cycles}
 use Rattle.aeth_app.specs.Limits.{max_connections}
 use Rattle.aeth_report.specs.Log.{LogData}
-use Rattle.aeth_components.specs.{Components.IsComponents, Components.frames_of, Lanes.IsLane}
+use Rattle.aeth_components.specs.Components.{IsComponents, wirings_of}
+use Rattle.aeth_components.specs.ChannelStates.{IsChannelState}
 use Rattle.aeth_running.specs.{Network.NetworkState, Routing.Routing, Routing.later_rows}
 use Rattle.aeth_stimuli.specs.Stimuli.{AreStimuli, Stimuli}
 use Rattle.aeth_network.specs.{Behind.passed, Fits.AreFit, Fits.HaveCounts}
@@ -30,28 +31,28 @@ network_of stimuli routing state log time = record {
 
 -- What holds of every network that has room for so many replaced channels.
 pub record IsNetwork (capacity : ℕ) (all : NetworkState) : Type 0 where
-  pub stimuli : AreStimuli (length all.components.lanes) (length all.components.words)
-      (frames_of all.components) all.stimuli
+  pub stimuli : AreStimuli (length all.components.channel_states) (length all.components.words)
+      (wirings_of all.components) all.stimuli
   pub enterings : IsNonDecreasingBy (λ entering. entering.cycle) (later_rows all.routing)
   pub components : IsComponents all.components
   pub some_parts : 0 < length all.components.parts
-  pub untils : length all.untils ≡ length all.components.lanes
-  pub outside : length all.outside ≡ length all.components.lanes
-  pub channels : length all.log.channels ≡ length all.components.lanes
+  pub untils : length all.untils ≡ length all.components.channel_states
+  pub outside : length all.outside ≡ length all.components.channel_states
+  pub channels : length all.log.channels ≡ length all.components.channel_states
   pub flits : length all.log.flits ≡ length all.components.flits
   pub fit : AreFit (length all.components.words) (length all.components.parts) all.untils
       (drop (passed (λ one. one.cycle) all.time all.stimuli.offers) all.stimuli.offers)
-      all.components.lanes
+      all.components.channel_states
   pub counts : HaveCounts
       (drop (passed (λ one. one.cycle) all.time all.stimuli.offers) all.stimuli.offers) all.outside
-  pub fresh : All (λ one. one.lane.accepted ≡ 0) all.stimuli.schedule.goings
-  pub replaced : All (IsLane (length all.components.words) (length all.components.parts))
+  pub fresh : All (λ one. one.channel_state.accepted ≡ 0) all.stimuli.schedule.session_starts
+  pub replaced : All (IsChannelState (length all.components.words) (length all.components.parts))
       all.replaced
   pub gone : length all.replaced
-      ≡ passed (λ one. one.lane.go) all.time all.stimuli.schedule.goings
-  pub enough : length all.stimuli.schedule.goings ≤ capacity
-  pub few_goings : length all.stimuli.schedule.goings < 2 ^ 32
-  pub few_channels : length all.components.lanes ≤ 2 * max_connections
+      ≡ passed (λ one. one.channel_state.go) all.time all.stimuli.schedule.session_starts
+  pub enough : length all.stimuli.schedule.session_starts ≤ capacity
+  pub few_session_starts : length all.stimuli.schedule.session_starts < 2 ^ 32
+  pub few_channels : length all.components.channel_states ≤ 2 * max_connections
   pub few_words : length all.components.words < 2 ^ 32
   pub few_parts : length all.components.parts < 2 ^ 32
   pub cycles : all.log.cycles ≤ max_cycles

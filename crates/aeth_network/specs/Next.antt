@@ -14,8 +14,9 @@
 -- This project's own.
 use Rattle.std.proofs.Common.{◌≡◌, ◌<◌, ◌≤◌, ◌+◌, ◌==◌, ℕ, [], List, Some, filter, fold}
 use Rattle.std.proofs.Common.{if◌then◌else◌, slice_get, slice_range, true}
-use Rattle.aeth_components.specs.{Lanes.is_open, declared.lane.Lane.Lane}
-use Rattle.aeth_schedule.specs.{Windows.IsWithin, declared.windows.Window.Window}
+use Rattle.aeth_components.specs.ChannelStates.{is_open}
+use Rattle.aeth_components.specs.declared.channel_state.ChannelState.{ChannelState}
+use Rattle.aeth_schedule.specs.{Windows.IsInWindow, declared.windows.Window.Window}
 use Rattle.aeth_stimuli.specs.Stimuli.{Offer, Take}
 use Rattle.aeth_network.specs.Behind.{passed}
 
@@ -28,7 +29,7 @@ pub record HasWindow (windows : List Window) (t : ℕ) : Type 0 where
   pub number : ℕ
   pub window : Window
   pub at : slice_get windows number ≡ Some window
-  pub within : IsWithin window t
+  pub within : IsInWindow window t
 
 -- How many words the receiver of a channel takes in a cycle at most, who took so many before these rows.
 abbrev pub pull_behind : ℕ → ℕ → List Take → ℕ
@@ -36,42 +37,47 @@ pull_behind number pull rows =
     fold (λ now row. if row.number == number then row.pull else now) pull rows
 
 -- The channel of a number has a word in a cycle that its receiver takes, by the rows from a place on.
-pub record AsksIn (lane : Lane) (number : ℕ) (takes : List Take) (place t : ℕ) : Type 0 where
-  pub waits : lane.taken < lane.landed
-  pub opened : is_open lane t ≡ true
-  pub pulls : 0 < pull_behind number lane.pull
+pub record AsksIn (channel_state : ChannelState) (number : ℕ) (takes : List Take) (place t : ℕ) :
+    Type 0 where
+  pub waits : channel_state.taken < channel_state.landed
+  pub opened : is_open channel_state t ≡ true
+  pub pulls : 0 < pull_behind number channel_state.pull
       (slice_range takes place (passed (λ one. one.cycle) (t + 1) takes))
 
 -- Some channel has.
-pub record HasAsker (lanes : List Lane) (takes : List Take) (place t : ℕ) : Type 0 where
+pub record HasAsker (channel_states : List ChannelState) (takes : List Take) (place t : ℕ) : Type
+    0 where
   pub number : ℕ
-  pub lane : Lane
-  pub at : slice_get lanes number ≡ Some lane
-  pub asks : AsksIn lane number takes place t
+  pub channel_state : ChannelState
+  pub at : slice_get channel_states number ≡ Some channel_state
+  pub asks : AsksIn channel_state number takes place t
 
 -- Some channel has whose receiver takes some as it stands.
-pub record HasTaker (lanes : List Lane) (takes : List Take) (place t : ℕ) : Type 0 where
+pub record HasTaker (channel_states : List ChannelState) (takes : List Take) (place t : ℕ) : Type
+    0 where
   pub number : ℕ
-  pub lane : Lane
-  pub at : slice_get lanes number ≡ Some lane
-  pub some : 0 < lane.pull
-  pub asks : AsksIn lane number takes place t
+  pub channel_state : ChannelState
+  pub at : slice_get channel_states number ≡ Some channel_state
+  pub some : 0 < channel_state.pull
+  pub asks : AsksIn channel_state number takes place t
 
 -- The channel of a row has, by which its receiver takes some.
-pub record IsAskedBy (lanes : List Lane) (row : Take) (takes : List Take) (place t : ℕ) : Type 0 where
-  pub lane : Lane
-  pub at : slice_get lanes row.number ≡ Some lane
+pub record IsAskedBy (channel_states : List ChannelState) (row : Take) (takes : List Take)
+    (place t : ℕ) : Type 0 where
+  pub channel_state : ChannelState
+  pub at : slice_get channel_states row.number ≡ Some channel_state
   pub some : 0 < row.pull
-  pub asks : AsksIn lane row.number takes place t
+  pub asks : AsksIn channel_state row.number takes place t
 
 -- The channel of one of the rows from a place on has, up to whose cycle this is.
-pub record HasRowTaker (lanes : List Lane) (takes : List Take) (place t : ℕ) : Type 0 where
+pub record HasRowTaker (channel_states : List ChannelState) (takes : List Take) (place t : ℕ) : Type
+    0 where
   pub number : ℕ
   pub row : Take
   pub at : slice_get takes number ≡ Some row
   pub from : place ≤ number
   pub since : row.cycle ≤ t
-  pub asked : IsAskedBy lanes row takes place t
+  pub asked : IsAskedBy channel_states row takes place t
 
 -- From one cycle on and below another, known things hold in none before this one, and something holds
 -- in this one; the other where no known thing holds in any.

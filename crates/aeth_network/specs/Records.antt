@@ -10,22 +10,24 @@ use Rattle.aeth_server.specs.{ChannelShape.IsShapeInRange, Limits.max_session_wo
 use Rattle.aeth_trace.specs.{Channels.channel_number, Words.words_on}
 use Rattle.aeth_trace.specs.{declared.words.WordRow.WordRow}
 use Rattle.aeth_report.specs.Log.{ChannelData}
-use Rattle.aeth_schedule.specs.declared.going.Going.{Going}
+use Rattle.aeth_schedule.specs.declared.session_start.SessionStart.{SessionStart}
 use Rattle.aeth_running.specs.FirstLog.{first_session}
-use Rattle.aeth_stimuli.specs.Stimuli.{goings_over}
+use Rattle.aeth_stimuli.specs.Stimuli.{session_starts_over}
 
 -- A channel with those of some sessions that go over it.
-abbrev pub channel_from : List WordRow → ℕ → List Going → Channel → ChannelData
-channel_from words cycles goings channel = record {
+abbrev pub channel_from : List WordRow → ℕ → List SessionStart → Channel → ChannelData
+channel_from words cycles session_starts channel = record {
   channel = channel;
-  sessions = map (first_session words cycles) (goings_over (channel_number channel) goings);
+  sessions = map (first_session words cycles)
+      (session_starts_over (channel_number channel) session_starts);
   outside = 0;
 }
 
 -- The channel of a number, with those of some more sessions that go over it.
-abbrev pub added_by : List WordRow → ℕ → List Going → ℕ → ChannelData → ChannelData
-added_by words cycles goings number channel = record channel {
-  sessions = channel.sessions ++ map (first_session words cycles) (goings_over number goings);
+abbrev pub added_by : List WordRow → ℕ → List SessionStart → ℕ → ChannelData → ChannelData
+added_by words cycles session_starts number channel = record channel {
+  sessions = channel.sessions
+      ++ map (first_session words cycles) (session_starts_over number session_starts);
 }
 
 -- Words that are offered within the longest run, and no more than a session has at most.
@@ -34,7 +36,8 @@ pub record AreOffered (words : List WordRow) : Type 0 where
   pub cycles : All (λ row. row.cycle ≤ max_cycles) words
 
 -- The words that a session accepts are there, its shape has due times, and none is accepted yet.
-pub record IsFresh (words : List WordRow) (going : Going) : Type 0 where
-  pub shape : IsShapeInRange going.shape
-  pub there : going.before + going.count ≤ length (words_on words going.channel)
-  pub none : going.lane.accepted ≡ 0
+pub record IsFresh (words : List WordRow) (session_start : SessionStart) : Type 0 where
+  pub shape : IsShapeInRange session_start.shape
+  pub there : session_start.before + session_start.count
+      ≤ length (words_on words session_start.channel)
+  pub none : session_start.channel_state.accepted ≡ 0

@@ -5,7 +5,7 @@
 -- This project's own.
 use Rattle.std.proofs.Common.{◌≡◌, ◌≤◌, ◌<◌, ℕ, All, List, Some, slice_get}
 use Rattle.std.specs.List.Sorted.{IsNonDecreasingBy}
-use Rattle.aeth_schedule.specs.{Windows.IsWithin, declared.windows.Window.Window}
+use Rattle.aeth_schedule.specs.{Windows.IsInWindow, declared.windows.Window.Window}
 
 -- Each window begins when words are stopped, and none begins before an earlier one.
 pub record AreAscending (windows : List Window) : Type 0 where
@@ -15,4 +15,4 @@ pub record AreAscending (windows : List Window) : Type 0 where
 -- The first so many windows have no cycle from one on.
 pub record AreOver (count time : ℕ) (windows : List Window) : Type 0 where
   pub over : (number t : ℕ) (window : Window) → number < count
-      → slice_get windows number ≡ Some window → time ≤ t → IsWithin window t → ⊥
+      → slice_get windows number ≡ Some window → time ≤ t → IsInWindow window t → ⊥

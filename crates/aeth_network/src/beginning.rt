@@ -12,7 +12,7 @@ ghost use Rattle.aeth_network.specs.Routes.{routing_in};
 ghost use Rattle.aeth_network.specs.Runs.{IsNetworkOf};
 
 use crate::given::{Cursors, Given};
-use crate::logging::first_log;
+use crate::making_log::first_log;
 use crate::network::RoutedNetwork;
 use crate::state::State;
 use crate::tables::UseTables;
@@ -100,7 +100,7 @@ fn begun(inputs: &RunInputs, given: Given, state: State, log: SimLog) -> RoutedN
         given,
         cursors: Cursors {
             event: 0,
-            going: 0,
+            session_start: 0,
             offer: 0,
             take: 0,
             window: 0,
@@ -129,7 +129,7 @@ pub(crate) fn log_before(
         inputs.chip(),
         inputs.app(),
         inputs.words(),
-        &given.schedule.goings(),
+        &given.schedule.session_starts(),
         inputs.cycles(),
     )
 }

@@ -3,7 +3,7 @@
 ghost use Rattle.std.specs.Prelude.{◌≡◌, ◌≤◌, ◌⊎◌, ◌+◌, IfOk};
 ghost use Rattle.aeth_components.specs.First.{IsFirst};
 ghost use Rattle.aeth_stimuli.specs.Events.{events_in};
-ghost use Rattle.aeth_running.specs.Network.{goings_in, offers_in, takes_in};
+ghost use Rattle.aeth_running.specs.Network.{session_starts_in, offers_in, takes_in};
 ghost use Rattle.aeth_schedule.specs.Schedule.{schedule_of};
 ghost use Rattle.aeth_stimuli.specs.Stimuli.{stimuli_of};
 ghost use Rattle.aeth_running.specs.Routing.{later_rows};
@@ -22,7 +22,7 @@ use crate::windows::{next_window, place_behind};
 use aeth_accepted::RunInputs;
 use aeth_base::NoMemory;
 use aeth_components::Event;
-use aeth_schedule::{Goings, Schedule};
+use aeth_schedule::{Schedule, SessionStarts};
 use std::alloc::Global;
 
 // What a run gives a network: its schedule, the words that are offered, the rows of receivers, and the
@@ -41,7 +41,7 @@ pub(crate) struct Given {
 #[derive(Clone, Copy)]
 pub(crate) struct Cursors {
     pub event: usize,
-    pub going: usize,
+    pub session_start: usize,
     pub offer: usize,
     pub take: usize,
     pub window: usize,
@@ -53,7 +53,7 @@ pub(crate) struct Cursors {
 #[derive(Drop)]
 pub(crate) struct CycleRows<'a> {
     pub events: &'a [Event],
-    pub goings: Goings<'a>,
+    pub session_starts: SessionStarts<'a>,
     pub offers: &'a [Offered],
     pub takes: &'a [Taking],
     pub tables: &'a Option<UseTables>,
@@ -103,7 +103,8 @@ impl Given {
         requires order { AreInOrder (stimuli_with self.now) (routing_with self.now) }
         requires from { AreCursors from time (stimuli_with self.now) (routing_with self.now) }
         ensures events { result.events.now ≡ events_in (stimuli_with self.now) time }
-        ensures goings { result.goings ≡ goings_in (stimuli_with self.now) time }
+        ensures session_starts { result.session_starts
+            ≡ session_starts_in (stimuli_with self.now) time }
         ensures offers { result.offers.now ≡ offers_in (stimuli_with self.now) time }
         ensures takes { result.takes.now ≡ takes_in (stimuli_with self.now) time }
         ensures tables { result.tables.now ≡ self.now.tables }
@@ -113,44 +114,45 @@ impl Given {
             (routing_with self.now) }
     {
         let event = behind(self.schedule.cycles(), from.event, time);
-        let goings = self.schedule.goings();
-        let going = behind(goings.list(), from.going, time);
+        let session_starts = self.schedule.session_starts();
+        let session_start = behind(session_starts.list(), from.session_start, time);
         let offer = behind(&self.offers, from.offer, time);
         let take = behind(&self.takes, from.take, time);
         let window = place_behind(self.schedule.windows(), from.window, time);
         let entering = behind_entering(&self.tables, from.entering, time);
         CycleRows {
             events: self.schedule.events(from.event, event),
-            goings: goings.range(from.going, going),
+            session_starts: session_starts.range(from.session_start, session_start),
             offers: &self.offers[from.offer..offer],
             takes: &self.takes[from.take..take],
             tables: &self.tables,
             behind: Cursors {
                 event,
-                going,
+                session_start,
                 offer,
                 take,
                 window,
                 entering,
-                quiet_until: self.quiet_until(event, going, take, entering),
+                quiet_until: self.quiet_until(event, session_start, take, entering),
             },
         }
     }
 
     // A cycle before which no event comes from these places on, no session goes, no row of a receiver
     // comes, and no rows enter tables.
-    fn quiet_until(&self, event: usize, going: usize, take: usize, entering: usize) -> u32
+    fn quiet_until(&self, event: usize, session_start: usize, take: usize, entering: usize) -> u32
         requires { AreInOrder (stimuli_with self.now) (routing_with self.now) }
         ensures events { passed (λ cycle. cycle) result (stimuli_with self.now).schedule.cycles
             ≤ event }
-        ensures goings { passed (λ one. one.lane.go) result (stimuli_with self.now).schedule.goings
-            ≤ going }
+        ensures session_starts { passed (λ one. one.channel_state.go) result
+            (stimuli_with self.now).schedule.session_starts
+            ≤ session_start }
         ensures takes { passed (λ one. one.cycle) result (stimuli_with self.now).takes ≤ take }
         ensures enterings { passed (λ one. one.cycle) result (later_rows (routing_with self.now))
             ≤ entering }
     {
         let until = quiet_until(self.schedule.cycles(), event, u32::MAX);
-        let until = quiet_until(self.schedule.goings().list(), going, until);
+        let until = quiet_until(self.schedule.session_starts().list(), session_start, until);
         let until = quiet_until(&self.takes, take, until);
         unentered_until(&self.tables, entering, until)
     }

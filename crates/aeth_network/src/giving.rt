@@ -5,77 +5,91 @@ ghost use Rattle.std.specs.Prelude.{map, vec_capacity};
 ghost use Rattle.std.specs.List.{slice_index_or};
 ghost use Rattle.aeth_app.specs.Limits.{max_connections};
 ghost use Rattle.aeth_trace.specs.Channels.{channel_number};
-ghost use Rattle.aeth_components.specs.Lanes.{IsLane};
+ghost use Rattle.aeth_components.specs.ChannelStates.{IsChannelState};
 ghost use Rattle.aeth_running.specs.Network.{accepted_with, gone_with, outside_with};
-ghost use Rattle.aeth_stimuli.specs.Loaded.{no_lane};
+ghost use Rattle.aeth_stimuli.specs.Loaded.{no_channel_state};
 ghost use Rattle.aeth_running.specs.Network.{taking_with, until_with};
 ghost use Rattle.aeth_network.specs.Fits.{AreFit, HaveCounts};
 
 use crate::rows::{Offered, Taking};
-use aeth_components::{Components, Lane};
-use aeth_schedule::{Going, Goings, number_of};
+use aeth_components::{ChannelState, Components};
+use aeth_schedule::{SessionStart, SessionStarts, number_of};
 
 // Notes how the channels stand whose sessions go. There is room for each.
-pub(crate) fn note(replaced: &mut Vec<Lane>, lanes: &[Lane], goings: &Goings)
-    requires goings { All (λ one. channel_number one.channel < length lanes.now) goings.now }
-    requires few { length lanes.now ≤ 2 * max_connections }
-    requires room { length replaced.old.items + length goings.now ≤ vec_capacity replaced.old }
-    ensures items { replaced.new.items ≡ replaced.old.items ++ map (λ one. slice_index_or lanes.now
-        (channel_number one.channel) no_lane) goings.now }
+pub(crate) fn note(
+    replaced: &mut Vec<ChannelState>,
+    channel_states: &[ChannelState],
+    session_starts: &SessionStarts,
+)
+    requires session_starts { All (λ one. channel_number one.channel < length channel_states.now)
+        session_starts.now }
+    requires few { length channel_states.now ≤ 2 * max_connections }
+    requires room { length replaced.old.items + length session_starts.now
+        ≤ vec_capacity replaced.old }
+    ensures items { replaced.new.items
+        ≡ replaced.old.items ++ map (λ one. slice_index_or channel_states.now
+        (channel_number one.channel) no_channel_state) session_starts.now }
     ensures capacity { vec_capacity replaced.old ≤ vec_capacity replaced.new }
 {
-    for place in 0..goings.len() {
-        let going = goings.at(place);
-        let number = number_of(going.channel) as usize;
-        note_one(replaced, &lanes[number]);
+    for place in 0..session_starts.len() {
+        let session_start = session_starts.at(place);
+        let number = number_of(session_start.channel) as usize;
+        note_one(replaced, &channel_states[number]);
     }
 }
 
 // Notes how a channel stands. There is room for it.
-fn note_one(replaced: &mut Vec<Lane>, lane: &Lane)
+fn note_one(replaced: &mut Vec<ChannelState>, channel_state: &ChannelState)
     requires { length replaced.old.items < vec_capacity replaced.old }
-    ensures items { replaced.new.items ≡ replaced.old.items ++ lane.now ∷ [] }
+    ensures items { replaced.new.items ≡ replaced.old.items ++ channel_state.now ∷ [] }
     ensures capacity { vec_capacity replaced.old ≤ vec_capacity replaced.new }
 {
-    let _ = replaced.push(*lane);
+    let _ = replaced.push(*channel_state);
 }
 
 // Starts sessions on their channels.
-pub(crate) fn start(components: &mut Components, untils: &mut Vec<u32>, goings: &Goings)
-    requires goings { All (λ one. channel_number one.channel < length components.old.lanes)
-        goings.now }
-    requires few { length components.old.lanes ≤ 2 * max_connections }
-    requires untils { length untils.old.items ≡ length components.old.lanes }
-    requires lanes { All (λ one. IsLane (length components.old.words)
-        (length components.old.parts) one.lane) goings.now }
+pub(crate) fn start(
+    components: &mut Components,
+    untils: &mut Vec<u32>,
+    session_starts: &SessionStarts,
+)
+    requires session_starts { All
+        (λ one. channel_number one.channel < length components.old.channel_states)
+        session_starts.now }
+    requires few { length components.old.channel_states ≤ 2 * max_connections }
+    requires untils { length untils.old.items ≡ length components.old.channel_states }
+    requires channel_states { All (λ one. IsChannelState (length components.old.words)
+        (length components.old.parts) one.channel_state) session_starts.now }
     ensures components { components.new ≡ record components.old {
-      lanes = fold gone_with components.old.lanes goings.now;
+      channel_states = fold gone_with components.old.channel_states session_starts.now;
     } }
-    ensures untils { untils.new.items ≡ fold until_with untils.old.items goings.now }
+    ensures untils { untils.new.items ≡ fold until_with untils.old.items session_starts.now }
 {
-    for place in 0..goings.len() {
-        let going = goings.at(place);
-        start_one(components, untils, &going);
+    for place in 0..session_starts.len() {
+        let session_start = session_starts.at(place);
+        start_one(components, untils, &session_start);
     }
 }
 
 // Starts a session on its channel, whose receiver takes as before.
-fn start_one(components: &mut Components, untils: &mut Vec<u32>, going: &Going)
-    requires going { channel_number going.now.channel < length components.old.lanes }
-    requires few { length components.old.lanes ≤ 2 * max_connections }
-    requires untils { length untils.old.items ≡ length components.old.lanes }
-    requires lane { IsLane (length components.old.words) (length components.old.parts)
-        going.now.lane }
+fn start_one(components: &mut Components, untils: &mut Vec<u32>, session_start: &SessionStart)
+    requires session_start { channel_number session_start.now.channel
+        < length components.old.channel_states }
+    requires few { length components.old.channel_states ≤ 2 * max_connections }
+    requires untils { length untils.old.items ≡ length components.old.channel_states }
+    requires channel_state { IsChannelState (length components.old.words)
+        (length components.old.parts)
+        session_start.now.channel_state }
     ensures components { components.new ≡ record components.old {
-      lanes = gone_with components.old.lanes going.now;
+      channel_states = gone_with components.old.channel_states session_start.now;
     } }
-    ensures untils { untils.new.items ≡ until_with untils.old.items going.now }
+    ensures untils { untils.new.items ≡ until_with untils.old.items session_start.now }
 {
-    let number = number_of(going.channel) as usize;
-    let mut lane = going.lane;
-    lane.pull = components.lanes()[number].pull;
-    components.load(number, lane);
-    untils[number] = going.until;
+    let number = number_of(session_start.channel) as usize;
+    let mut channel_state = session_start.channel_state;
+    channel_state.pull = components.channel_states()[number].pull;
+    components.load(number, channel_state);
+    untils[number] = session_start.until;
 }
 
 // Offers words in a cycle: the sessions of their channels accept them, or they are outside of all.
@@ -86,16 +100,17 @@ pub(crate) fn offer(
     offers: &[Offered],
     time: u32,
 )
-    requires offers { All (λ one. one.number < length components.old.lanes) offers.now }
+    requires offers { All (λ one. one.number < length components.old.channel_states) offers.now }
     requires time { All (λ one. one.cycle ≡ time) offers.now }
-    requires untils { length untils.now ≡ length components.old.lanes }
-    requires outside { length outside.old.items ≡ length components.old.lanes }
+    requires untils { length untils.now ≡ length components.old.channel_states }
+    requires outside { length outside.old.items ≡ length components.old.channel_states }
     requires fit { AreFit (length components.old.words) (length components.old.parts)
-        untils.now offers.now components.old.lanes }
+        untils.now offers.now components.old.channel_states }
     requires counts { HaveCounts offers.now outside.old.items }
     requires words { length components.old.words < 2 ^ 32 }
     ensures components { components.new ≡ record components.old {
-      lanes = fold (accepted_with time untils.now) components.old.lanes offers.now;
+      channel_states =
+          fold (accepted_with time untils.now) components.old.channel_states offers.now;
     } }
     ensures outside { outside.new.items
         ≡ fold (outside_with time untils.now) outside.old.items offers.now }
@@ -113,22 +128,22 @@ fn offer_one(
     offer: &Offered,
     time: u32,
 )
-    requires offer { offer.now.number < length components.old.lanes }
+    requires offer { offer.now.number < length components.old.channel_states }
     requires time { offer.now.cycle ≡ time }
-    requires untils { length untils.now ≡ length components.old.lanes }
-    requires outside { length outside.old.items ≡ length components.old.lanes }
+    requires untils { length untils.now ≡ length components.old.channel_states }
+    requires outside { length outside.old.items ≡ length components.old.channel_states }
     requires fit { AreFit (length components.old.words) (length components.old.parts)
-        untils.now (offer.now ∷ []) components.old.lanes }
+        untils.now (offer.now ∷ []) components.old.channel_states }
     requires counts { HaveCounts (offer.now ∷ []) outside.old.items }
     requires words { length components.old.words < 2 ^ 32 }
     ensures components { components.new ≡ record components.old {
-      lanes = accepted_with time untils.now components.old.lanes offer.now;
+      channel_states = accepted_with time untils.now components.old.channel_states offer.now;
     } }
     ensures outside { outside.new.items ≡ outside_with time untils.now outside.old.items offer.now }
 {
     let number = offer.number as usize;
     if time < untils[number] {
-        let accepted = components.lanes()[number].accepted;
+        let accepted = components.channel_states()[number].accepted;
         components.accept(number, accepted + 1);
     } else {
         outside[number] += 1;
@@ -137,9 +152,9 @@ fn offer_one(
 
 // Has receivers take as rows say.
 pub(crate) fn take(components: &mut Components, takes: &[Taking])
-    requires { All (λ one. one.number < length components.old.lanes) takes.now }
+    requires { All (λ one. one.number < length components.old.channel_states) takes.now }
     ensures { components.new ≡ record components.old {
-      lanes = fold taking_with components.old.lanes takes.now;
+      channel_states = fold taking_with components.old.channel_states takes.now;
     } }
 {
     for one in takes {
@@ -149,9 +164,9 @@ pub(crate) fn take(components: &mut Components, takes: &[Taking])
 
 // Has a receiver take as a row says.
 fn take_one(components: &mut Components, take: &Taking)
-    requires { take.now.number < length components.old.lanes }
+    requires { take.now.number < length components.old.channel_states }
     ensures { components.new ≡ record components.old {
-      lanes = taking_with components.old.lanes take.now;
+      channel_states = taking_with components.old.channel_states take.now;
     } }
 {
     components.set_pull(take.number as usize, take.pull);

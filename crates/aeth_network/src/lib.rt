@@ -5,6 +5,7 @@ mod beginning;
 mod given;
 mod giving;
 mod logging;
+mod making_log;
 mod network;
 mod next;
 mod places;
@@ -13,7 +14,6 @@ mod rows;
 mod simulating;
 mod state;
 mod tables;
-mod telling;
 mod windows;
 
 pub use network::RoutedNetwork;

@@ -2,24 +2,24 @@
 
 ghost use Rattle.std.specs.Prelude.{◌≡◌, ◌≤◌, ◌<◌, ◌+◌, ◌-◌, ◌*◌, length};
 ghost use Rattle.aeth_report.specs.RunLog.{log_of};
-ghost use Rattle.aeth_components.specs.Turns.{flits_on};
+ghost use Rattle.aeth_components.specs.FlitsOnWires.{flits_on};
 ghost use Rattle.aeth_accepted.specs.Inputs.{Inputs, run_of};
 ghost use Rattle.aeth_running.specs.Idle.{IsNextBusyOf};
 ghost use Rattle.aeth_running.specs.Lossless.{LosesNothing};
 ghost use Rattle.aeth_running.specs.Network.{played, stepped};
 ghost use Rattle.aeth_running.specs.Quiet.{AreStill, IsNextBusy};
 ghost use Rattle.aeth_running.specs.Still.{IsStill};
-ghost use Rattle.aeth_running.specs.Told.{told};
+ghost use Rattle.aeth_running.specs.Logged.{logged};
 ghost use Rattle.aeth_network.specs.Brought.{BringsWords};
 ghost use Rattle.aeth_network.specs.Runs.{AreWiresOf, IsNetworkOf};
 
 use crate::given::{Cursors, Given};
 use crate::giving::{offer, take};
+use crate::logging::log_sessions;
 use crate::next::{next_own, next_taking, place_before};
 use crate::places::behind;
 use crate::routing::enter;
 use crate::state::{State, run};
-use crate::telling::tell;
 use aeth_base::Steps;
 use aeth_clocked::{Order, Wires};
 use aeth_report::SimLog;
@@ -286,16 +286,16 @@ impl RoutedNetwork {
     /// The log of the cycles that are done. Of a network of accepted inputs that has done all their
     /// cycles it is the log of their run.
     pub fn log(mut self) -> SimLog
-        ensures told { result ≡ told self }
+        ensures logged { result ≡ logged self }
         ensures run { (inputs : Inputs) → IsNetworkOf inputs self → self.time ≡ inputs.cycles
             → result ≡ log_of (run_of inputs) }
     {
         aeth_running::laws::networks_log();
-        tell(
+        log_sessions(
             &mut self.log,
             &self.state.components,
             &self.state.outside,
-            &self.given.schedule.goings(),
+            &self.given.schedule.session_starts(),
             &self.state.replaced,
             &mut self.state.untils,
         );

@@ -8,7 +8,7 @@ ghost use Rattle.aeth_network.specs.Next.{AsksIn, HasAsker, HasOffer, HasRowTake
 ghost use Rattle.aeth_network.specs.Next.{IsAskedBy, IsFirstKnown};
 
 use crate::rows::{Offered, Taking};
-use aeth_components::{Components, Lane};
+use aeth_components::{ChannelState, Components};
 
 // The cycle of the first word that is offered from a place on, which lies behind the words before a
 // cycle, where that is below a limit; else the limit.
@@ -39,13 +39,13 @@ pub(crate) fn next_taking(
 ) -> u32
     requires order { IsNonDecreasingBy (λ one. one.cycle) takes.now }
     requires place { place ≡ passed (λ one. one.cycle) time takes.now }
-    requires few { length components.now.lanes < 2 ^ 32 }
+    requires few { length components.now.channel_states < 2 ^ 32 }
     requires to { time ≤ to }
-    ensures { IsFirst (HasAsker components.now.lanes takes.now place) time to result }
+    ensures { IsFirst (HasAsker components.now.channel_states takes.now place) time to result }
 {
     if time < to {
         let next = next_by_pulls(components, takes, place, time, to);
-        next_by_rows(components.lanes(), takes, place, time, next)
+        next_by_rows(components.channel_states(), takes, place, time, next)
     } else {
         to
     }
@@ -56,33 +56,46 @@ pub(crate) fn next_taking(
 fn next_by_pulls(components: &Components, takes: &[Taking], place: usize, time: u32, to: u32) -> u32
     requires order { IsNonDecreasingBy (λ one. one.cycle) takes.now }
     requires place { place ≡ passed (λ one. one.cycle) time takes.now }
-    requires few { length components.now.lanes < 2 ^ 32 }
+    requires few { length components.now.channel_states < 2 ^ 32 }
     requires to { time ≤ to }
-    ensures { IsFirstKnown (HasTaker components.now.lanes takes.now place)
-        (HasAsker components.now.lanes takes.now place) time to result }
+    ensures { IsFirstKnown (HasTaker components.now.channel_states takes.now place)
+        (HasAsker components.now.channel_states takes.now place) time to result }
 {
-    let lanes = components.lanes();
+    let channel_states = components.channel_states();
     let mut next = to;
     let mut number = components.next_taking(0);
-    'channels: while number < lanes.len() && time < next {
-        next = next_asking(&lanes[number], number as u32, takes, place, time, next);
+    'channels: while number < channel_states.len() && time < next {
+        next = next_asking(
+            &channel_states[number],
+            number as u32,
+            takes,
+            place,
+            time,
+            next,
+        );
         number = components.next_taking(number + 1);
     }
     next
 }
 
 // The same, before which none does by a row from the place on.
-fn next_by_rows(lanes: &[Lane], takes: &[Taking], place: usize, time: u32, to: u32) -> u32
+fn next_by_rows(
+    channel_states: &[ChannelState],
+    takes: &[Taking],
+    place: usize,
+    time: u32,
+    to: u32,
+) -> u32
     requires order { IsNonDecreasingBy (λ one. one.cycle) takes.now }
     requires place { place ≡ passed (λ one. one.cycle) time takes.now }
     requires to { time ≤ to }
-    ensures { IsFirstKnown (HasRowTaker lanes.now takes.now place)
-        (HasAsker lanes.now takes.now place) time to result }
+    ensures { IsFirstKnown (HasRowTaker channel_states.now takes.now place)
+        (HasAsker channel_states.now takes.now place) time to result }
 {
     let mut next = to;
     let mut row = place;
     'rows: while is_before(takes, row, next) {
-        next = next_by_row(lanes, takes[row], takes, place, time, next);
+        next = next_by_row(channel_states, takes[row], takes, place, time, next);
         row += 1;
     }
     next
@@ -90,7 +103,7 @@ fn next_by_rows(lanes: &[Lane], takes: &[Taking], place: usize, time: u32, to: u
 
 // The same, before which the channel of a row doesn't by it.
 fn next_by_row(
-    lanes: &[Lane],
+    channel_states: &[ChannelState],
     row: Taking,
     takes: &[Taking],
     place: usize,
@@ -100,12 +113,12 @@ fn next_by_row(
     requires order { IsNonDecreasingBy (λ one. one.cycle) takes.now }
     requires place { place ≡ passed (λ one. one.cycle) time takes.now }
     requires to { time ≤ to }
-    ensures { IsFirstKnown (IsAskedBy lanes.now row takes.now place)
-        (HasAsker lanes.now takes.now place) time to result }
+    ensures { IsFirstKnown (IsAskedBy channel_states.now row takes.now place)
+        (HasAsker channel_states.now takes.now place) time to result }
 {
     let number = row.number as usize;
-    if row.pull > 0 && number < lanes.len() {
-        next_asking(&lanes[number], row.number, takes, place, time, to)
+    if row.pull > 0 && number < channel_states.len() {
+        next_asking(&channel_states[number], row.number, takes, place, time, to)
     } else {
         to
     }
@@ -125,14 +138,21 @@ pub(crate) fn next_own(components: &Components, time: u32, to: u32) -> u32
 }
 
 // The first of the channel of a number.
-fn next_asking(lane: &Lane, number: u32, takes: &[Taking], place: usize, time: u32, to: u32) -> u32
+fn next_asking(
+    channel_state: &ChannelState,
+    number: u32,
+    takes: &[Taking],
+    place: usize,
+    time: u32,
+    to: u32,
+) -> u32
     requires order { IsNonDecreasingBy (λ one. one.cycle) takes.now }
     requires place { place ≡ passed (λ one. one.cycle) time takes.now }
     requires to { time ≤ to }
-    ensures { IsFirst (AsksIn lane.now number takes.now place) time to result }
+    ensures { IsFirst (AsksIn channel_state.now number takes.now place) time to result }
 {
-    if lane.taken < lane.landed {
-        next_pull(lane, number, takes, place, time, to)
+    if channel_state.taken < channel_state.landed {
+        next_pull(channel_state, number, takes, place, time, to)
     } else {
         to
     }
@@ -140,16 +160,23 @@ fn next_asking(lane: &Lane, number: u32, takes: &[Taking], place: usize, time: u
 
 // The first where it has words that wait. From row to row it is known how many its receiver takes, and
 // since when.
-fn next_pull(lane: &Lane, number: u32, takes: &[Taking], place: usize, time: u32, to: u32) -> u32
-    requires waits { lane.now.taken < lane.now.landed }
+fn next_pull(
+    channel_state: &ChannelState,
+    number: u32,
+    takes: &[Taking],
+    place: usize,
+    time: u32,
+    to: u32,
+) -> u32
+    requires waits { channel_state.now.taken < channel_state.now.landed }
     requires order { IsNonDecreasingBy (λ one. one.cycle) takes.now }
     requires place { place ≡ passed (λ one. one.cycle) time takes.now }
     requires to { time ≤ to }
-    ensures { IsFirst (AsksIn lane.now number takes.now place) time to result }
+    ensures { IsFirst (AsksIn channel_state.now number takes.now place) time to result }
 {
-    let end = to.min(lane.fin);
-    let mut pull = lane.pull;
-    let mut since = time.max(lane.go);
+    let end = to.min(channel_state.fin);
+    let mut pull = channel_state.pull;
+    let mut since = time.max(channel_state.go);
     let mut at = place;
     'rows: while is_before(takes, at, limit_of(pull, since, end)) {
         let row = takes[at];

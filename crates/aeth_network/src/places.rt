@@ -6,7 +6,7 @@ ghost use Rattle.aeth_network.specs.Behind.{IsBehind, passed};
 
 use crate::rows::{Offered, Taking};
 use crate::tables::EnteredUse;
-use aeth_schedule::GoingByLine;
+use aeth_schedule::SessionStartByLine;
 
 // What is brought in a cycle.
 pub(crate) trait InCycle {
@@ -35,7 +35,7 @@ impl InCycle for u32 {
     }
 }
 
-impl InCycle for GoingByLine {
+impl InCycle for SessionStartByLine {
     ghost cycle = { λ one. one.go };
 
     fn is_in(&self, time: u32) -> bool {

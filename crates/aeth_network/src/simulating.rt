@@ -1,7 +1,7 @@
 // The run of a network.
 
 ghost use Rattle.std.specs.Prelude.{◌≡◌, ◌≤◌, ◌<◌, ◌+◌, ◌-◌, ◌*◌, length};
-ghost use Rattle.aeth_components.specs.Turns.{flits_on};
+ghost use Rattle.aeth_components.specs.FlitsOnWires.{flits_on};
 ghost use Rattle.aeth_accepted.specs.Inputs.{Inputs};
 ghost use Rattle.aeth_running.specs.Network.{played};
 ghost use Rattle.aeth_running.specs.Quiet.{IsNextBusy};

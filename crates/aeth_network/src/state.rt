@@ -4,14 +4,14 @@ ghost use Rattle.std.specs.Prelude.{◌≡◌, ◌<◌, ◌≤◌, ◌+◌, ◌*
 ghost use Rattle.aeth_base.specs.Limits.{max_cycles};
 ghost use Rattle.aeth_ni.specs.Limits.{queues_of_interface};
 ghost use Rattle.aeth_components.specs.Changes.{switched};
-ghost use Rattle.aeth_components.specs.Components.{Cycle, first_components, frames_of};
+ghost use Rattle.aeth_components.specs.Components.{ComponentsCycle, first_components, wirings_of};
 ghost use Rattle.aeth_components.specs.Events.{IsDoable};
-ghost use Rattle.aeth_components.specs.Frames.{frame_of};
+ghost use Rattle.aeth_components.specs.Wirings.{wiring_of};
 ghost use Rattle.aeth_components.specs.Making.{new_parts};
-ghost use Rattle.aeth_components.specs.Turns.{flits_on};
+ghost use Rattle.aeth_components.specs.FlitsOnWires.{flits_on};
 ghost use Rattle.aeth_schedule.specs.Schedule.{schedule_of};
 ghost use Rattle.aeth_schedule.specs.Values.{values_of};
-ghost use Rattle.aeth_stimuli.specs.Loaded.{no_lane};
+ghost use Rattle.aeth_stimuli.specs.Loaded.{no_channel_state};
 ghost use Rattle.aeth_network.specs.Brought.{CanBring, IsBrought};
 ghost use Rattle.aeth_running.specs.Network.{routed_components};
 ghost use Rattle.aeth_running.specs.Routing.{IsRoutingFor};
@@ -27,7 +27,7 @@ use aeth_app::App;
 use aeth_base::{NiId, NoMemory, Steps};
 use aeth_chip::Chip;
 use aeth_clocked::Order;
-use aeth_components::{ChannelEnd, Components, Lane, RouterKind};
+use aeth_components::{ChannelEnd, ChannelState, Components, RouterKind};
 use aeth_schedule::{Schedule, values};
 use aeth_trace::Words;
 use std::alloc::Global;
@@ -44,7 +44,7 @@ pub(crate) struct State {
     pub components: Components,
     pub untils: Vec<u32>,
     pub outside: Vec<u32>,
-    pub replaced: Vec<Lane>,
+    pub replaced: Vec<ChannelState>,
 }
 
 impl State {
@@ -64,7 +64,7 @@ impl State {
         let channels = 2 * inputs.app().connections() as usize;
         let untils = vec![in alloc; 0; channels]?;
         let outside = vec![in alloc; 0; channels]?;
-        let replaced = Vec::with_capacity(alloc, schedule.goings().len())?;
+        let replaced = Vec::with_capacity(alloc, schedule.session_starts().len())?;
         let components = routed_components(alloc, inputs, schedule, tables)?;
         Ok(State {
             components,
@@ -79,8 +79,12 @@ impl State {
         requires { CanBring self.old rows.now time }
         ensures { IsBrought rows.now time self.old self.new }
     {
-        note(&mut self.replaced, self.components.lanes(), &rows.goings);
-        start(&mut self.components, &mut self.untils, &rows.goings);
+        note(
+            &mut self.replaced,
+            self.components.channel_states(),
+            &rows.session_starts,
+        );
+        start(&mut self.components, &mut self.untils, &rows.session_starts);
         offer(
             &mut self.components,
             &self.untils,
@@ -102,8 +106,8 @@ pub(crate) fn run<L: Ledger>(
 )
     requires order { length order.now ≡ length components.old.parts }
     requires time { time < max_cycles }
-    requires events { All (IsDoable (frames_of components.old)) rows.now.events.now }
-    ensures cycle { Cycle rows.now.events.now time components.old components.new }
+    requires events { All (IsDoable (wirings_of components.old)) rows.now.events.now }
+    ensures cycle { ComponentsCycle rows.now.events.now time components.old components.new }
     ensures steps { steps.new
         ≤ steps.old + 2 * flits_on components.old.wires + 2 * flits_on components.new.wires }
 {
@@ -142,31 +146,38 @@ fn loaded(
 ) -> Result<Components, NoMemory>
     requires rooms { length schedule.now.rooms ≡ queues_of_interface * length chip.now.nis }
     requires some { 0 < length chip.now.nis }
-    requires loaded { All (IsDoable (map frame_of (new_parts chip.now
+    requires loaded { All (IsDoable (map wiring_of (new_parts chip.now
         kind schedule.now.rooms))) schedule.now.loaded }
     ensures { IfOk result (λ components. let made = first_components chip.now
         kind schedule.now.rooms
-        (replicate (2 * length app.now.connections) no_lane)
+        (replicate (2 * length app.now.connections) no_channel_state)
         (values_of words.now (length app.now.connections)) in
         components ≡ record made { parts = switched schedule.now.loaded made.parts }) }
 {
     let channels = 2 * app.connections() as usize;
-    let lanes = vec![in alloc; no_lane(); channels]?;
+    let channel_states = vec![in alloc; no_channel_state(); channels]?;
     let values = values(alloc, app, words)?;
-    let mut components = Components::new(alloc, chip, kind, schedule.rooms(), lanes, values)?;
+    let mut components = Components::new(
+        alloc,
+        chip,
+        kind,
+        schedule.rooms(),
+        channel_states,
+        values,
+    )?;
     components.prepare(schedule.loaded());
     Ok(components)
 }
 
 // A channel of which no session has gone.
-fn no_lane() -> Lane
-    ensures { result ≡ no_lane }
+fn no_channel_state() -> ChannelState
+    ensures { result ≡ no_channel_state }
 {
     let nowhere = ChannelEnd {
         ni: NiId(0),
         queue: 0,
     };
-    Lane {
+    ChannelState {
         sender: nowhere,
         receiver: nowhere,
         go: 0,
@@ -174,7 +185,7 @@ fn no_lane() -> Lane
         first: 0,
         accepted: 0,
         pull: USUAL_PULL,
-        handed: 0,
+        enqueued: 0,
         landed: 0,
         taken: 0,
     }

@@ -3,7 +3,7 @@
 ghost use Rattle.std.specs.Prelude.{◌≡◌, ◌<◌, ◌≤◌, ◌+◌, ◌^◌, ◌↔◌, IsTrue, Some, length, slice_get, ℕ};
 ghost use Rattle.std.specs.List.Sorted.{IsNonDecreasingBy};
 ghost use Rattle.aeth_components.specs.First.{IsFirst};
-ghost use Rattle.aeth_schedule.specs.Windows.{IsWithin};
+ghost use Rattle.aeth_schedule.specs.Windows.{IsInWindow};
 ghost use Rattle.aeth_schedule.specs.declared.windows.Window.{Window};
 ghost use Rattle.aeth_network.specs.Behind.{passed};
 ghost use Rattle.aeth_network.specs.Next.{HasWindow};
@@ -46,7 +46,7 @@ fn is_begun(windows: &[Window], place: usize, limit: u32) -> bool
 // The first of a window.
 fn next_within(window: &Window, time: u32, to: u32) -> u32
     requires { time ≤ to }
-    ensures { IsFirst (IsWithin window.now) time to result }
+    ensures { IsFirst (IsInWindow window.now) time to result }
 {
     let next = sooner(window.until, time, to);
     let next = sooner(window.stop, time, next);
@@ -85,7 +85,7 @@ pub(crate) fn place_behind(windows: &[Window], from: usize, time: u32) -> usize
 // Whether the window at a place is there and has no cycle behind one.
 fn is_over(windows: &[Window], place: usize, time: u32) -> bool
     ensures over { IsTrue result → (t : ℕ) (window : Window) → slice_get windows.now place ≡ Some window
-        → time < t → IsWithin window t → ⊥ }
+        → time < t → IsInWindow window t → ⊥ }
     ensures within { IsTrue result → place < length windows.now }
     ensures fits { IsTrue result → place + 1 < 2 ^ 64 }
 {

@@ -1,122 +1,210 @@
-//! What holds of every network whose sessions are those of an accepted plan, over the definitions
-//! alone.
-ghost use Rattle.std.specs.Prelude.{◌≡◌, ◌≤◌, ◌<◌, ◌+◌, ◌-◌, ◌++◌, ℕ, min, length, map};
-ghost use Rattle.std.specs.Prelude.{None, Option, Some};
-ghost use Rattle.std.specs.Option.{option_to_list};
+//! What holds of the components of a network over routed sessions, over the definitions alone.
+ghost use Rattle.std.specs.Prelude.{◌≡◌, ◌≤◌, ◌<◌, ◌-◌, ◌+◌, ℕ, suc, List, None, Option, length, map};
+ghost use Rattle.aeth_clocked.specs.Wires.{flit_on};
 ghost use Rattle.aeth_clocked.specs.declared.flit.Flit.{Flit};
-ghost use Rattle.aeth_ni.specs.Component.{Arrival, arrival_of};
-ghost use Rattle.aeth_router.specs.Ports.{flits_for, sole};
-ghost use Rattle.aeth_refinement.specs.Tables.{AreEntries, GoesOnOnce, passed_on};
-ghost use Rattle.aeth_server.specs.PrivateServer.{landed, pull_at, taken};
-ghost use Rattle.aeth_refinement.specs.Accepted.{IsAccepted};
-ghost use Rattle.aeth_refinement.specs.Carried.{Exact, IsPassed, words_from};
-ghost use Rattle.aeth_refinement.specs.Carries.{carries};
-ghost use Rattle.aeth_refinement.specs.Cycle.{Cycle};
-ghost use Rattle.aeth_refinement.specs.Components.{Net, after, queue_of, words_for};
-ghost use Rattle.aeth_refinement.specs.Fabric.{AtRouter, Fabric, Owns, flow_at, server_at};
-ghost use Rattle.aeth_refinement.specs.Runs.{Begins, History};
-ghost use Rattle.aeth_refinement.specs.Standing.{Stands};
+ghost use Rattle.aeth_router.specs.Part.{absorb_of};
+ghost use Rattle.aeth_router.specs.declared.part.Part.{Part};
+ghost use Rattle.aeth_components.specs.Changes.{switched};
+ghost use Rattle.aeth_base.specs.Limits.{max_cycles};
+ghost use Rattle.aeth_components.specs.Components.{ComponentsState, IsComponents, wires_driven};
+ghost use Rattle.aeth_components.specs.Components.{ComponentsCycle};
+ghost use Rattle.aeth_components.specs.Wirings.{IsWired, wiring_of};
+ghost use Rattle.aeth_components.specs.Phases.{Moment, in_turn, pulled, refilled};
+ghost use Rattle.aeth_components.specs.View.{queue_of as queue_in};
+ghost use Rattle.aeth_components.specs.Switching.{entry_of};
+ghost use Rattle.aeth_components.specs.declared.event.Event.{Event};
+ghost use Rattle.aeth_server.specs.PrivateServer.{arrived, landed, taken};
+ghost use Rattle.aeth_invariant.specs.WellRouted.{AreWellRouted};
+ghost use Rattle.aeth_invariant.specs.Carried.{Exact};
+ghost use Rattle.aeth_invariant.specs.Components.{Net, driven, queue_of};
+ghost use Rattle.aeth_invariant.specs.Cycle.{NetCycle, Latched, Refilled, Took};
+ghost use Rattle.aeth_invariant.specs.RoutedSessions.{RoutedSessions, IsOpenSession, server_at};
+ghost use Rattle.aeth_invariant.specs.Switches.{Switched};
+ghost use Rattle.aeth_refinement.specs.Beginning.{AreEmpty, loaded_with};
+ghost use Rattle.aeth_refinement.specs.Events.{AreEvents};
+ghost use Rattle.aeth_refinement.specs.Following.{Follows};
+ghost use Rattle.aeth_refinement.specs.WiredFor.{IsWiredFor};
+ghost use Rattle.aeth_refinement.specs.Places.{ArePlaced, HavePlaces};
+ghost use Rattle.aeth_refinement.specs.Routed.{AreRoutedBy};
+ghost use Rattle.aeth_refinement.specs.Running.{Prepares, Runs, Starts};
+ghost use Rattle.aeth_refinement.specs.Served.{AreServed, enqueued_after};
+ghost use Rattle.aeth_refinement.specs.Logging.{CountsFlits, HasLogged, NotesLandings};
+ghost use Rattle.aeth_refinement.specs.View.{HaveLatched, net_of};
 
-/// Before the first cycle the components stand as the private servers say, whose counts are 0.
-pub fn runs_begin_standing()
-    ensures { (fabric : Fabric) → IsAccepted fabric → (net : Net) → Begins fabric net
-        → Stands fabric 0 0 net }
-{}
+/// The events of a cycle make what the law on networks says, where they are those of routed
+/// sessions.
+pub fn switches_are_made()
+    ensures { (sessions : RoutedSessions) (e : ℕ) (events : List Event) (parts : List Part)
+        (enqueued : ℕ → ℕ) (wires : List (Option Flit)) (count : ℕ)
+        → IsWiredFor sessions (map wiring_of parts) count → AreEvents sessions e events
+        → Switched sessions e (net_of enqueued parts wires)
+        (net_of enqueued (switched events parts) wires) }
+{
+    aeth_components::laws::events_change_their_own();
+}
 
-/// One cycle leads from components that stand to components that stand, and its wires have the
-/// flits that the private servers send, and nothing else.
-pub fn cycles_keep_standing()
-    ensures wires { (fabric : Fabric) → IsAccepted fabric → (t : ℕ) (old new : Net)
-        (wires : ℕ → Option Flit) → Stands fabric t t old → Cycle fabric t old wires new
-        → Exact fabric t wires }
-    ensures components { (fabric : Fabric) → IsAccepted fabric → (t : ℕ) (old new : Net)
-        (wires : ℕ → Option Flit) → Stands fabric t t old → Cycle fabric t old wires new
-        → Stands fabric (t + 1) (t + 1) new }
-{}
+/// The source queues are refilled as in the law on networks, where each channel in use is that of a
+/// session, which has enqueued no more than has arrived.
+pub fn queues_are_refilled()
+    ensures { (sessions : RoutedSessions) → AreWellRouted sessions
+        → (channel : ℕ → ℕ) (words : List ℕ)
+        (t lands takes : ℕ) (enqueued : ℕ → ℕ) (moment : Moment) (wires : List (Option Flit))
+        (count : ℕ) → IsWiredFor sessions (map wiring_of moment.parts) count
+        → AreServed sessions channel words t lands takes enqueued moment.channel_states
+        → ((c : ℕ) → c < sessions.count → IsOpenSession sessions c t
+        → enqueued c ≤ arrived (server_at sessions c) (t + 1))
+        → Refilled sessions t (net_of enqueued moment.parts wires)
+        (net_of (enqueued_after sessions (net_of enqueued moment.parts wires) t)
+        (in_turn (refilled words t) moment).parts wires) }
+{
+    aeth_components::laws::turns_are_taken_alone();
+}
 
-/// Before each cycle of a run the components stand as the private servers say, and in each the
-/// wires have what these send.
-pub fn components_stand()
-    ensures components { (fabric : Fabric) → IsAccepted fabric → (nets : ℕ → Net)
-        (wires : ℕ → ℕ → Option Flit) → History fabric nets wires → (t : ℕ)
-        → Stands fabric t t (nets t) }
-    ensures wires { (fabric : Fabric) → IsAccepted fabric → (nets : ℕ → Net)
-        (wires : ℕ → ℕ → Option Flit) → History fabric nets wires → (t : ℕ)
-        → Exact fabric t (wires t) }
-{}
-
-/// Each wire has the one flit that it carries, or none; it never carries two.
-pub fn wires_carry()
-    ensures { (fabric : Fabric) → IsAccepted fabric → (t : ℕ) (wires : ℕ → Option Flit)
-        → Exact fabric t wires → (l : ℕ) → carries fabric l t ≡ option_to_list (wires l) }
-{}
-
-/// No receive queue ever holds more than its session's buffer, and in a cycle it keeps all that
-/// comes.
-pub fn queues_fit()
-    ensures buffer { (fabric : Fabric) → IsAccepted fabric → (t : ℕ) (net : Net)
-        → Stands fabric t t net → (c : ℕ) → c < fabric.count → Owns fabric c t
-        → length (queue_of fabric net c).received
-        ≤ (server_at fabric (fabric.opposite c)).buffer }
-    ensures whole { (fabric : Fabric) → IsAccepted fabric → (t : ℕ) (old new : Net)
-        (wires : ℕ → Option Flit) → Stands fabric t t old → (cycle : Cycle fabric t old wires new)
-        → (c : ℕ) → c < fabric.count → Owns fabric c (t + 1)
-        → (queue_of fabric new c).received ≡ (queue_of fabric cycle.pulled c).received
-        ++ words_for (fabric.passage c).queue
-        (arrival_of (wires (fabric.entering (fabric.passage c).ni))) }
-{}
-
-/// What the wires of a cycle bring to a session's receiver are the words of its private server
-/// that land in the next cycle, in their order.
-pub fn words_land()
-    ensures { (fabric : Fabric) → IsAccepted fabric → (t : ℕ) (wires : ℕ → Option Flit)
-        → Exact fabric t wires → (c : ℕ) → c < fabric.count → Owns fabric c (t + 1)
-        → words_for (fabric.passage (fabric.opposite c)).queue
-        (arrival_of (wires (fabric.entering (fabric.passage (fabric.opposite c)).ni)))
-        ≡ words_from (flow_at fabric c).values (landed (server_at fabric c) (t + 1))
-        (landed (server_at fabric c) (t + 2) - landed (server_at fabric c) (t + 1)) }
-{}
-
-/// What a receiver takes in a cycle, of the words that are there behind the drive, is what its
-/// private server takes.
+/// The receivers take as in the law on networks, where no queue holds more than has landed of its
+/// session and wasn't taken.
 pub fn words_are_taken()
-    ensures { (fabric : Fabric) → IsAccepted fabric → (t : ℕ) (old new : Net)
-        (wires : ℕ → Option Flit) → Stands fabric t t old → (cycle : Cycle fabric t old wires new)
-        → (c : ℕ) → c < fabric.count → Owns fabric c (t + 1)
-        → taken (server_at fabric (fabric.opposite c)) (t + 1)
-        ≡ taken (server_at fabric (fabric.opposite c)) t
-        + min (pull_at (server_at fabric (fabric.opposite c)) t)
-        (length (queue_of fabric (after fabric cycle.ready t) c).received) }
+    ensures { (sessions : RoutedSessions) → AreWellRouted sessions
+        → (channel : ℕ → ℕ) (words : List ℕ)
+        (t lands takes : ℕ) (enqueued : ℕ → ℕ) (moment : Moment) (wires : List (Option Flit))
+        (count : ℕ) → IsWiredFor sessions (map wiring_of moment.parts) count
+        → AreServed sessions channel words t lands takes enqueued moment.channel_states
+        → (old : Net)
+        → ((n x : ℕ) → old.entry n x ≡ entry_of moment.parts n x)
+        → ((c : ℕ) → c < sessions.count → queue_of sessions old c
+        ≡ queue_in moment.parts (sessions.routed_session c).ni (sessions.routed_session c).queue)
+        → ((c : ℕ) → c < sessions.count → IsOpenSession sessions c t
+        → length (queue_of sessions old c).received
+        ≤ landed (server_at sessions (sessions.opposite c)) lands
+        - taken (server_at sessions (sessions.opposite c)) takes)
+        → Took sessions t old (net_of enqueued (in_turn (pulled t) moment).parts wires) }
+{
+    aeth_components::laws::turns_are_taken_alone();
+}
+
+/// The components of routed sessions drive on each wire what the law on networks says, by headers
+/// or by tables: where they hold what the routed sessions carried in the cycle before, or nothing
+/// in the first cycle, and tables have the sessions of the cycle.
+pub fn wires_are_driven()
+    ensures { (sessions : RoutedSessions) → AreWellRouted sessions → (parts : List Part)
+        (old : List (Option Flit)) (t : ℕ) (enqueued : ℕ → ℕ)
+        → IsWired (map wiring_of parts) (length old)
+        → IsWiredFor sessions (map wiring_of parts) (length old) → HaveLatched parts old
+        → AreRoutedBy sessions t parts → ((v : ℕ) → suc v ≡ t → Exact sessions v (flit_on old))
+        → (t ≡ 0 → (l : ℕ) → flit_on old l ≡ None) → (l : ℕ)
+        → flit_on (wires_driven parts (length old) t) l
+        ≡ driven sessions (net_of enqueued parts old) t l }
 {}
 
-/// A flit that a router holds names one of its ports, and no other flit that it holds names that
-/// port. No flit on a wire has a payload count of 3.
-pub fn no_flit_is_lost()
-    ensures passed { (fabric : Fabric) → IsAccepted fabric → (t : ℕ) (held : ℕ → Option Flit)
-        → Exact fabric t held → (m r : ℕ) (flit : Flit) → fabric.end m ≡ AtRouter r
-        → held m ≡ Some flit → IsPassed fabric held m r flit }
-    ensures read { (fabric : Fabric) → IsAccepted fabric → (t : ℕ) (wires : ℕ → Option Flit)
-        → Exact fabric t wires → (l : ℕ) (flit : Flit) → wires l ≡ Some flit
-        → (arrival : Arrival) × (arrival_of (Some flit) ≡ Some arrival) }
+/// They latch as it says, and hold then what the wires had.
+pub fn wires_are_latched()
+    ensures latched { (sessions : RoutedSessions) → AreWellRouted sessions → (parts : List Part)
+        (wires : List (Option Flit)) (count : ℕ) → IsWiredFor sessions (map wiring_of parts) count
+        → (enqueued : ℕ → ℕ) (old : List (Option Flit))
+        → Latched sessions (flit_on wires) (net_of enqueued parts old)
+        (net_of enqueued (map (λ part. absorb_of part wires) parts) wires) }
+    ensures held { (parts : List Part) (wires : List (Option Flit))
+        → HaveLatched (map (λ part. absorb_of part wires) parts) wires }
 {}
 
-/// Where routers hold what the fabric carried in the cycle before, or nothing in the first cycle,
-/// tables that have just the entries of the sessions in them send on what headers do.
-pub fn tables_forward()
-    ensures after { (fabric : Fabric) → IsAccepted fabric → 0 < fabric.size → (t : ℕ)
-        (held : ℕ → Option Flit) → Exact fabric t held → (from : ℕ → Option ℕ)
-        → AreEntries fabric (t + 1) from → (l r : ℕ) → fabric.start l ≡ AtRouter r
-        → passed_on from held l
-        ≡ sole (flits_for (fabric.port l) (map held (fabric.incoming r))) }
-    ensures first { (fabric : Fabric) (held : ℕ → Option Flit) → ((l : ℕ) → held l ≡ None)
-        → (from : ℕ → Option ℕ) (l r : ℕ) → passed_on from held l
-        ≡ sole (flits_for (fabric.port l) (map held (fabric.incoming r))) }
+/// One cycle of components that follow the private servers of routed sessions, with the events that
+/// the routed sessions have in that cycle, is a cycle of the law on networks, and they follow them
+/// still.
+pub fn cycles_are_cycles()
+    ensures cycle { (sessions : RoutedSessions) → AreWellRouted sessions → (channel : ℕ → ℕ)
+        (events : List Event) (t : ℕ) (enqueued : ℕ → ℕ) (old new : ComponentsState)
+        → Follows sessions channel t t enqueued old → AreEvents sessions (t + 1) events
+        → ComponentsCycle events t old new
+        → NetCycle sessions t (net_of enqueued old.parts old.wires) (flit_on new.wires)
+        (net_of
+        (enqueued_after sessions (net_of enqueued (switched events old.parts) old.wires) t)
+        new.parts new.wires) }
+    ensures follows { (sessions : RoutedSessions) → AreWellRouted sessions → (channel : ℕ → ℕ)
+        (events : List Event) (t : ℕ) (enqueued : ℕ → ℕ) (old new : ComponentsState)
+        → Follows sessions channel t t enqueued old → AreEvents sessions (t + 1) events
+        → ComponentsCycle events t old new
+        → Follows sessions channel t (t + 1)
+        (enqueued_after sessions (net_of enqueued (switched events old.parts) old.wires) t) new }
+    ensures exact { (sessions : RoutedSessions) → AreWellRouted sessions → (channel : ℕ → ℕ)
+        (events : List Event) (t : ℕ) (enqueued : ℕ → ℕ) (old new : ComponentsState)
+        → Follows sessions channel t t enqueued old → AreEvents sessions (t + 1) events
+        → ComponentsCycle events t old new → Exact sessions t (flit_on new.wires) }
+{
+    switches_are_made();
+    aeth_components::laws::turns_are_taken_alone();
+}
+
+/// Components between two cycles follow the private servers, once they are prepared.
+pub fn components_are_prepared()
+    ensures { (sessions : RoutedSessions) → AreWellRouted sessions
+        → (channel : ℕ → ℕ) (t : ℕ) (enqueued : ℕ → ℕ)
+        (old ready : ComponentsState) → Runs sessions channel t enqueued old
+        → Prepares sessions channel t old ready → Follows sessions channel t t enqueued ready }
 {}
 
-/// There each flit that a router holds goes on by one wire, and by no other.
-pub fn tables_lose_nothing()
-    ensures { (fabric : Fabric) → IsAccepted fabric → 0 < fabric.size → (t : ℕ)
-        (held : ℕ → Option Flit) → Exact fabric t held → (from : ℕ → Option ℕ)
-        → AreEntries fabric (t + 1) from → (m r : ℕ) (flit : Flit) → fabric.end m ≡ AtRouter r
-        → held m ≡ Some flit → GoesOnOnce fabric from m r }
+/// From a cycle to the next components run on: they are prepared, and do the cycle with the events
+/// that the routed sessions have in it.
+pub fn cycles_keep_running()
+    ensures { (sessions : RoutedSessions) → AreWellRouted sessions
+        → (channel : ℕ → ℕ) (events : List Event)
+        (t : ℕ) (enqueued : ℕ → ℕ) (old ready new : ComponentsState)
+        → Runs sessions channel t enqueued old → Prepares sessions channel t old ready
+        → AreEvents sessions (t + 1) events → ComponentsCycle events t ready new
+        → Runs sessions channel (t + 1)
+        (enqueued_after sessions (net_of enqueued (switched events ready.parts) ready.wires) t) new }
+{
+    cycles_are_cycles();
+}
+
+/// Empty components run before the first cycle, once the events are done that routed sessions have
+/// before it.
+pub fn runs_begin()
+    ensures { (sessions : RoutedSessions) → AreWellRouted sessions
+        → (channel : ℕ → ℕ) (events : List Event)
+        (all : ComponentsState) → AreEmpty sessions all → AreEvents sessions 0 events
+        → Runs sessions channel 0 (λ c. 0) (loaded_with events all) }
+{
+    aeth_components::laws::events_change_their_own();
+}
+
+/// A cycle whose wires have the flits of the private servers counts for each link the cycles in which
+/// these have one there.
+pub fn flits_are_counted()
+    ensures { (sessions : RoutedSessions) → AreWellRouted sessions → (events : List Event) (t : ℕ)
+        (old new : ComponentsState) → IsComponents old → ComponentsCycle events t old new
+        → t < max_cycles → Exact sessions t (flit_on new.wires)
+        → length new.wires ≡ length old.wires → CountsFlits sessions t old
+        → CountsFlits sessions (t + 1) new }
 {}
+
+/// Behind each cycle the channel of a session that went tells what has landed and what was taken of it,
+/// also once it is finished, until another session goes over the channel.
+pub fn sessions_are_logged()
+    ensures { (sessions : RoutedSessions) (channel : ℕ → ℕ) (events : List Event) (t : ℕ)
+        (more : ℕ → ℕ)
+        (old ready new : ComponentsState) → Prepares sessions channel t old ready
+        → ComponentsCycle events t ready new → Follows sessions channel t (t + 1) more new → (c : ℕ)
+        → c < sessions.count → (server_at sessions c).go ≤ t
+        → (server_at sessions c).go < (server_at sessions c).finish
+        → ((server_at sessions c).finish ≤ t → Starts sessions channel t (channel c) → ⊥)
+        → ((server_at sessions c).go < t → HasLogged sessions channel t c old)
+        → HasLogged sessions channel (t + 1) c new }
+{
+    aeth_components::laws::turns_are_taken_alone();
+}
+
+/// A cycle of components that follow the private servers notes for each word that lands the cycle in
+/// which it lands there, at its place among all words, and leaves all others.
+pub fn landings_are_noted()
+    ensures { (sessions : RoutedSessions) → AreWellRouted sessions
+        → (channel : ℕ → ℕ) (events : List Event)
+        (t : ℕ) (enqueued : ℕ → ℕ) (old new : ComponentsState)
+        → Follows sessions channel t t enqueued old → AreEvents sessions (t + 1) events
+        → ComponentsCycle events t old new → (first : ℕ → ℕ)
+        → HavePlaces sessions channel first t old.channel_states
+        → ArePlaced sessions first (length old.landings)
+        → NotesLandings sessions first t old → NotesLandings sessions first (t + 1) new }
+{
+    switches_are_made();
+    aeth_components::laws::turns_are_taken_alone();
+    aeth_components::laws::landings_are_noted_alone();
+}

@@ -8,9 +8,9 @@ use Rattle.aeth_chip.specs.{Chip.ChipData, Chip.IsChip, Paths.delay_of, Paths.of
 use Rattle.aeth_chip.proofs.OffsetLemmas.{delay_of-range, offset-more, offset-zero}
 use Rattle.aeth_chip.proofs.WireLemmas.{wire_at-apart}
 use Rattle.aeth_router.specs.Router.{last_wire}
-use Rattle.aeth_fabric.specs.Paths.{wires_along}
-use Rattle.aeth_fabric.proofs.ApartWires.{link_known}
-use Rattle.aeth_fabric.proofs.PathWires.{IsWireOf, wires-at, wires-place}
+use Rattle.aeth_routed_sessions.specs.Paths.{wires_along}
+use Rattle.aeth_routed_sessions.proofs.ApartWires.{link_known}
+use Rattle.aeth_routed_sessions.proofs.PathWires.{IsWireOf, wires-at, wires-place}
 
 module _ (chip : ChipData) (is_chip : IsChip chip) (path : List LinkId) where
   -- A path goes from a wire at place i, the last of a link, to the first wire of the next link.

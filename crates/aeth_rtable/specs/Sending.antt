@@ -4,8 +4,8 @@
 -- Tables in routers: this project's own.
 use Rattle.std.proofs.Common.{ℕ, ◌%◌, List, Option, None, option_map}
 use Rattle.aeth_chip.specs.Chip.{ChipData}
-use Rattle.aeth_fabric.specs.Wiring.{start_of}
-use Rattle.aeth_refinement.specs.Fabric.{AtInterface, AtRouter, AtStage, WireEnd}
+use Rattle.aeth_routed_sessions.specs.Wiring.{start_of}
+use Rattle.aeth_invariant.specs.RoutedSessions.{AtInterface, AtRouter, AtStage, WireEnd}
 use Rattle.aeth_report.specs.Routes.{port_of}
 use Rattle.aeth_router.specs.{Router.last_wire, Rows.link_in}
 use Rattle.aeth_router.specs.{declared.router_row.RouterRow.RouterRow}

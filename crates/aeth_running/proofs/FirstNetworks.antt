@@ -10,28 +10,28 @@ use Rattle.aeth_chip.proofs.WireLemmas.{have_delays, wires_of-split}
 use Rattle.aeth_clocked.specs.declared.flit.Flit.{Flit}
 use Rattle.aeth_trace.specs.{Channels.channel_number, Limits.usual_pull, Receivers.pulls_on}
 use Rattle.aeth_trace.specs.{declared.receivers.PullRow.PullRow}
-use Rattle.aeth_components.proofs.{MadeLemmas.length-new_parts, PartLemmas.frames-switched}
+use Rattle.aeth_components.proofs.{MadeLemmas.length-new_parts, PartLemmas.wirings-switched}
 use Rattle.aeth_components.specs.{Changes.switched, Components.ComponentsState}
 use Rattle.aeth_components.specs.{Components.IsComponents, Components.first_components}
-use Rattle.aeth_components.specs.{Components.frames_of, Frames.Frame, Frames.IsWired}
-use Rattle.aeth_components.specs.{Frames.frame_of, Lanes.IsLane, Making.new_parts}
-use Rattle.aeth_components.specs.{declared.lane.Lane.Lane}
+use Rattle.aeth_components.specs.{Components.wirings_of, Wirings.Wiring, Wirings.IsWired}
+use Rattle.aeth_components.specs.{Wirings.wiring_of, ChannelStates.IsChannelState, Making.new_parts}
+use Rattle.aeth_components.specs.{declared.channel_state.ChannelState.ChannelState}
 use Rattle.aeth_components.specs.{declared.making.RouterKind.TheVariants.ByHeader}
-use Rattle.aeth_refinement.specs.Accepted.{IsAccepted}
+use Rattle.aeth_invariant.specs.WellRouted.{AreWellRouted}
 use Rattle.aeth_accepted.specs.Inputs.{Inputs, run_of}
-use Rattle.aeth_fabric.specs.Fabric.{fabric_of, passage_of}
+use Rattle.aeth_routed_sessions.specs.RoutedSessions.{routed_sessions_of, routed_session_of}
 use Rattle.aeth_schedule.specs.{Rooms.rooms_of, Switching.loaded_of, Values.values_of}
-use Rattle.aeth_invariant.proofs.{Routed.frames-but_tables, Running.runs-but_tables}
-use Rattle.aeth_invariant.specs.{Beginning.AreEmpty, Events.AreEvents, Routed.without_table}
-use Rattle.aeth_invariant.specs.{Running.Runs}
+use Rattle.aeth_refinement.proofs.{Routed.wirings-but_tables, Running.runs-but_tables}
+use Rattle.aeth_refinement.specs.{Beginning.AreEmpty, Events.AreEvents, Routed.without_table}
+use Rattle.aeth_refinement.specs.{Running.Runs}
 use Rattle.aeth_stimuli.proofs.{FittingEvents.rooms-counted, WordWindows.below-none}
-use Rattle.aeth_stimuli.specs.{Loaded.loaded_components, Loaded.no_lane, OnChip.HaveRooms}
+use Rattle.aeth_stimuli.specs.{Loaded.loaded_components, Loaded.no_channel_state, OnChip.HaveRooms}
 use Rattle.aeth_stimuli.specs.{OnChip.IsOver, Sessions.channel_of}
 use Rattle.aeth_running.proofs.{ChannelNumbers.channel-within, ChannelRows.last_pull}
 use Rattle.aeth_running.proofs.{ChannelStates.Unused, NetworkLaws.BeginningLaws, NetworkSteps.Plays}
 use Rattle.aeth_running.proofs.{RouterTables.but-first, RouterTables.tables-first}
 use Rattle.aeth_running.specs.{Network.first_network, Network.routed_components, Routing.Routing}
-use Rattle.aeth_running.specs.{Running.IsRunning}
+use Rattle.aeth_running.specs.{Running.HoldsBefore}
 use Rattle.aeth_report.specs.SessionList.{session_list, listed_at, partner_of, place_at}
 
 -- What stands at a place of a list of one item.
@@ -51,52 +51,57 @@ at-replicate size i x within =
     ∙ ap (λ y. Some y) (get_or-replicate size i x x within)
 
 module _ (inputs : Inputs) where
-  abbrev lanes : List Lane
-  lanes = replicate (2 * length inputs.app.connections) no_lane
+  abbrev channel_states : List ChannelState
+  channel_states = replicate (2 * length inputs.app.connections) no_channel_state
 
   abbrev words : List ℕ
   words = values_of inputs.words (length inputs.app.connections)
 
   abbrev made : ComponentsState
-  made = first_components inputs.chip ByHeader (rooms_of inputs) lanes words
+  made = first_components inputs.chip ByHeader (rooms_of inputs) channel_states words
 
-  module _ (laws : BeginningLaws) (is_chip : IsChip inputs.chip) (ok : IsAccepted (fabric_of inputs))
-      (is-over : IsOver (fabric_of inputs) inputs.chip)
-      (have-rooms : HaveRooms (fabric_of inputs) (rooms_of inputs))
-      (loaded-are : AreEvents (fabric_of inputs) 0 (loaded_of inputs)) where
-    begins : AreEmpty (fabric_of inputs) made
+  module _ (laws : BeginningLaws) (is_chip : IsChip inputs.chip)
+      (ok : AreWellRouted (routed_sessions_of inputs))
+      (is-over : IsOver (routed_sessions_of inputs) inputs.chip)
+      (have-rooms : HaveRooms (routed_sessions_of inputs) (rooms_of inputs))
+      (loaded-are : AreEvents (routed_sessions_of inputs) 0 (loaded_of inputs)) where
+    begins : AreEmpty (routed_sessions_of inputs) made
     begins = laws.chips_begin inputs.chip is_chip (rooms_of inputs) (rooms-counted inputs)
         (length (session_list (run_of inputs)))
-        (λ c. passage_of (run_of inputs) (place_at (run_of inputs) c)
+        (λ c. routed_session_of (run_of inputs) (place_at (run_of inputs) c)
         (listed_at (run_of inputs) c))
-        partner_of is-over have-rooms lanes words
-        (λ number lane at. sym (ap (λ (one : Lane). one.fin)
-        (replicate-at (2 * length inputs.app.connections) number no_lane lane at)))
+        partner_of is-over have-rooms channel_states words
+        (λ number channel_state at. sym (ap (λ (one : ChannelState). one.fin)
+        (replicate-at (2 * length inputs.app.connections) number no_channel_state channel_state
+        at)))
 
-    runs : Runs (fabric_of inputs) (channel_of inputs) 0 (λ c. 0) (loaded_components inputs)
-    runs = laws.runs_begin (fabric_of inputs) ok (channel_of inputs) (loaded_of inputs) made begins
+    runs : Runs (routed_sessions_of inputs) (channel_of inputs) 0 (λ c. 0)
+        (loaded_components inputs)
+    runs = laws.runs_begin (routed_sessions_of inputs) ok (channel_of inputs) (loaded_of inputs)
+        made begins
         loaded-are
 
     parts-some : 1 ≤ length (loaded_components inputs).parts
     parts-some =
         let parts = new_parts inputs.chip ByHeader (rooms_of inputs) in
         let after = switched (loaded_of inputs) parts in
-        let same = ap length (frames-switched (loaded_of inputs) parts) in
-        let one = length-map after frame_of in
-        let two = length-map parts frame_of in
+        let same = ap length (wirings-switched (loaded_of inputs) parts) in
+        let one = length-map after wiring_of in
+        let two = length-map parts wiring_of in
         let count = length-new_parts inputs.chip (rooms_of inputs) in
         let some = is_chip.some_nis in
         omega (arith, same, one, two, count, some)
 
-    no-lane : IsLane (length words) (length (loaded_components inputs).parts) no_lane
-    no-lane =
+    no-channel_state : IsChannelState (length words) (length (loaded_components inputs).parts)
+        no_channel_state
+    no-channel_state =
         let some = parts-some in
         record {
           sender = record { part = omega (arith, some); queue = omega arith };
           receiver = record { part = omega (arith, some); queue = omega arith };
           taken = omega arith;
           landed = omega arith;
-          handed = omega arith;
+          enqueued = omega arith;
           within = omega arith;
         }
 
@@ -110,8 +115,10 @@ module _ (inputs : Inputs) where
         let few = is_chip.few_links in
         record {
           wired = runs.wired;
-          lanes = All-replicate (IsLane (length words) (length (loaded_components inputs).parts))
-              (2 * length inputs.app.connections) no_lane no-lane;
+          channel_states =
+              All-replicate
+              (IsChannelState (length words) (length (loaded_components inputs).parts))
+              (2 * length inputs.app.connections) no_channel_state no-channel_state;
           landings = length-replicate (length words) 0;
           flits = omega (arith, links, wires, split);
           few = omega (arith, links, few);
@@ -125,41 +132,41 @@ module _ (inputs : Inputs) where
       same : map without_table routed.parts ≡ map without_table (loaded_components inputs).parts
       same = but-first routing inputs.chip (rooms_of inputs) (loaded_of inputs)
 
-      frames-same : frames_of (routed_components inputs routing)
-          ≡ frames_of (loaded_components inputs)
-      frames-same = frames-but_tables routed.parts (loaded_components inputs).parts same
+      wirings-same : wirings_of (routed_components inputs routing)
+          ≡ wirings_of (loaded_components inputs)
+      wirings-same = wirings-but_tables routed.parts (loaded_components inputs).parts same
 
       count-same : length (loaded_components inputs).parts
           ≡ length (routed_components inputs routing).parts
-      count-same = sym (length-map (loaded_components inputs).parts frame_of)
-          ∙ ap length (sym frames-same) ∙ length-map routed.parts frame_of
+      count-same = sym (length-map (loaded_components inputs).parts wiring_of)
+          ∙ ap length (sym wirings-same) ∙ length-map routed.parts wiring_of
 
       routed-sound : IsComponents (routed_components inputs routing)
       routed-sound =
           let before = sound in
           record {
-            wired = subst (λ (list : List Frame). IsWired list
-                (length (loaded_components inputs).wires)) (sym frames-same) before.wired;
-            lanes = subst (λ (n : ℕ). All (IsLane (length words) n)
-                (loaded_components inputs).lanes) count-same before.lanes;
+            wired = subst (λ (list : List Wiring). IsWired list
+                (length (loaded_components inputs).wires)) (sym wirings-same) before.wired;
+            channel_states = subst (λ (n : ℕ). All (IsChannelState (length words) n)
+                (loaded_components inputs).channel_states) count-same before.channel_states;
             landings = before.landings;
             flits = before.flits;
             few = before.few;
           }
 
-      first-running : IsRunning inputs 0 (routed_components inputs routing)
+      first-running : HoldsBefore inputs 0 (routed_components inputs routing)
       first-running = record {
-        handed = λ c. 0;
-        runs = runs-but_tables (fabric_of inputs) (channel_of inputs) 0 (λ c. 0)
+        enqueued = λ c. 0;
+        runs = runs-but_tables (routed_sessions_of inputs) (channel_of inputs) 0 (λ c. 0)
             (loaded_components inputs) routed.parts same runs;
         sound = routed-sound;
-        frames = frames-same;
+        wirings = wirings-same;
         words = refl;
-        lanes = length-replicate (2 * length inputs.app.connections) no_lane;
+        channel_states = length-replicate (2 * length inputs.app.connections) no_channel_state;
         links = length-replicate (length inputs.chip.links) 0;
         flits = λ l count at. sym (replicate-at (length inputs.chip.links) l 0 count at);
-        notes = λ c i u known going soon. absurd (omega (arith, soon));
-        told = λ c latest. let gone = latest.gone in absurd (omega (arith, gone));
+        notes = λ c i u known session_start soon. absurd (omega (arith, soon));
+        logged = λ c latest. let gone = latest.gone in absurd (omega (arith, gone));
         last = λ c latest. let gone = latest.gone in absurd (omega (arith, gone));
       }
 
@@ -174,9 +181,10 @@ module _ (inputs : Inputs) where
         channels = λ channel known.
             let within = channel-within channel (length inputs.app.connections) known in
             record {
-              lane = no_lane;
+              channel_state = no_channel_state;
               until = 0;
-              at = at-replicate (2 * length inputs.app.connections) (channel_number channel) no_lane
+              at = at-replicate (2 * length inputs.app.connections) (channel_number channel)
+                  no_channel_state
                   within;
               until_at = at-replicate (2 * length inputs.app.connections) (channel_number channel) 0
                   within;

@@ -16,10 +16,10 @@ use Rattle.aeth_report.specs.RunLog.{due_of}
 use Rattle.aeth_report.specs.declared.{log.Landing.Landing, session.Session.Session}
 use Rattle.aeth_report.proofs.ListOrder.{early-first}
 use Rattle.aeth_accepted.specs.Inputs.{AreAccepted, Inputs, run_of}
-use Rattle.aeth_schedule.specs.{Values.before_of, declared.going.Going.Going}
+use Rattle.aeth_schedule.specs.{Values.before_of, declared.session_start.SessionStart.SessionStart}
 use Rattle.aeth_running.specs.FirstLog.{first_row, rows_of}
 use Rattle.aeth_running.proofs.InOrder.{below, below-both, between-are, between-count}
-use Rattle.aeth_stimuli.specs.Sessions.{SessionGoing, as_going, going_of}
+use Rattle.aeth_stimuli.specs.Sessions.{SessionStartData, as_session_start, session_start_of}
 use Rattle.aeth_stimuli.proofs.WordWindows.{below-none}
 
 -- The first i words are done as they are by themselves.
@@ -116,25 +116,27 @@ module _ (inputs : Inputs) (accepted_are : AreAccepted inputs) (channel : Channe
       ∙ ap length (sym (filter-map (λ a. nat_lt a inputs.cycles) cycle rows))
       ∙ (λ q. length (filter (λ a. nat_lt a inputs.cycles) (sym accepted-are q)))
 
-  module _ (going : Going) (is : as_going going ≡ going_of inputs channel session) where
+  module _ (session_start : SessionStart)
+      (is : as_session_start session_start ≡ session_start_of inputs channel session) where
     -- So many words are offered to the session within the run.
-    pub count-is : going.count ≡ arrived (server_of (run_of inputs) channel session) inputs.cycles
-    count-is = ap (λ (g : SessionGoing). g.count) is ∙ counted-arrived
+    pub count-is : session_start.count
+        ≡ arrived (server_of (run_of inputs) channel session) inputs.cycles
+    count-is = ap (λ (g : SessionStartData). g.count) is ∙ counted-arrived
 
     -- They are the first of all that it accepts.
-    pub rows-are : rows_of inputs.words going
-        ≡ take going.count (words_in (run_of inputs) channel session)
+    pub rows-are : rows_of inputs.words session_start
+        ≡ take session_start.count (words_in (run_of inputs) channel session)
     rows-are =
-        let count : going.count ≡ counted = ap (λ (g : SessionGoing). g.count) is in
-        let before : going.before ≡ before_of inputs.words channel session.go =
-        ap (λ (g : SessionGoing). g.before) is in
-        let same : going.channel ≡ channel = ap (λ (g : SessionGoing). g.channel) is in
+        let count : session_start.count ≡ counted = ap (λ (g : SessionStartData). g.count) is in
+        let before : session_start.before ≡ before_of inputs.words channel session.go =
+        ap (λ (g : SessionStartData). g.before) is in
+        let same : session_start.channel ≡ channel = ap (λ (g : SessionStartData). g.channel) is in
         (λ q. take (count q) (drop (before q) (words_on inputs.words (same q))))
         ∙ taken-are ∙ ap (λ n. take n rows) (sym count)
 
-    -- What a log tells of the word behind the first k, as of which nothing has landed.
-    abbrev pub told_row : ℕ → Landing
-    told_row k =
+    -- What a log says of the word behind the first k, as of which nothing has landed.
+    abbrev pub logged_row : ℕ → Landing
+    logged_row k =
         let server = server_of (run_of inputs) channel session in
         record {
           offered = slice_index (accepted server) k;
@@ -143,31 +145,37 @@ module _ (inputs : Inputs) (accepted_are : AreAccepted inputs) (channel : Channe
           value = slice_index (values_of (run_of inputs) channel session) k;
         }
 
-    pub first-row-is : (k : ℕ) → k < going.count → first_row inputs.words going k ≡ told_row k
+    pub first-row-is : (k : ℕ) → k < session_start.count
+        → first_row inputs.words session_start k ≡ logged_row k
     first-row-is k inside =
         let server = server_of (run_of inputs) channel session in
         let value = λ (row : WordRow). row.value in
-        let shape : shape_of going.shape ≡ server.shape = ap (λ (g : SessionGoing). g.shape) is in
-        let cycles : map cycle (rows_of inputs.words going) ≡ take going.count (accepted server) =
+        let shape : shape_of session_start.shape ≡ server.shape =
+        ap (λ (g : SessionStartData). g.shape) is in
+        let cycles : map cycle (rows_of inputs.words session_start)
+        ≡ take session_start.count (accepted server) =
         ap (λ (list : List WordRow). map cycle list) rows-are
-        ∙ sym (take-map cycle going.count rows)
-        ∙ ap (λ (list : List ℕ). take going.count list) (sym accepted-are) in
-        let values : map value (rows_of inputs.words going) ≡ take going.count (map value rows) =
+        ∙ sym (take-map cycle session_start.count rows)
+        ∙ ap (λ (list : List ℕ). take session_start.count list) (sym accepted-are) in
+        let values : map value (rows_of inputs.words session_start)
+        ≡ take session_start.count (map value rows) =
         ap (λ (list : List WordRow). map value list) rows-are
-        ∙ sym (take-map value going.count rows) in
-        let offered : slice_index (map cycle (rows_of inputs.words going)) k
+        ∙ sym (take-map value session_start.count rows) in
+        let offered : slice_index (map cycle (rows_of inputs.words session_start)) k
         ≡ slice_index (accepted server) k =
         ap (λ (list : List ℕ). slice_index list k) cycles
-        ∙ get_or-take going.count (accepted server) k 0 inside in
-        let valued : slice_index (map value (rows_of inputs.words going)) k
+        ∙ get_or-take session_start.count (accepted server) k 0 inside in
+        let valued : slice_index (map value (rows_of inputs.words session_start)) k
         ≡ slice_index (map value rows) k =
         ap (λ (list : List ℕ). slice_index list k) values
-        ∙ get_or-take going.count (map value rows) k 0 inside in
+        ∙ get_or-take session_start.count (map value rows) k 0 inside in
         let finish = λ (s : Shape) (list : List ℕ). due_cycle s.rate
         (finish_time s.size s.rate (channel_latency s) list (k + 1)) in
-        let due : finish (shape_of going.shape) (map cycle (rows_of inputs.words going))
+        let due : finish (shape_of session_start.shape)
+        (map cycle (rows_of inputs.words session_start))
         ≡ finish server.shape (accepted server) =
         (λ q. finish (shape q) (cycles q))
         ∙ ap (due_cycle server.shape.rate) (finish-first server.shape.size server.shape.rate
-        (channel_latency server.shape) going.count (accepted server) (k + 1) (omega arith)) in
+        (channel_latency server.shape) session_start.count (accepted server) (k + 1) (omega arith))
+        in
         λ q. record { offered = offered q; landed = 0; due = due q; value = valued q }

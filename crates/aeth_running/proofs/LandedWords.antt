@@ -145,7 +145,7 @@ module _ (server : PrivateServer) (paths : HasPaths server.shape)
         ];
       })
 
-  -- And each of them in the cycle that a log tells.
+  -- And each of them in the cycle that a log says.
   pub landed-at : (k : ℕ) → k < landed server counted
       → slice_get landings (first + k) ≡ Some (landing_cycle server counted (k + 1))
   landed-at k within =

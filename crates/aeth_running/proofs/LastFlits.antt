@@ -13,7 +13,7 @@ use Rattle.aeth_ni.specs.declared.write.Write.TheVariants.{ClearRoute, ClearSlot
 use Rattle.aeth_router.specs.Part.{absorb_of}
 use Rattle.aeth_router.specs.declared.part.Part.{Part}
 use Rattle.aeth_router.specs.declared.part.Part.TheVariants.{Interface, Router, Stage, TableRouter}
-use Rattle.aeth_components.proofs.{FrameLemmas.from-map, PartLemmas.views-switched}
+use Rattle.aeth_components.proofs.{WiringLemmas.from-map, PartLemmas.views-switched}
 use Rattle.aeth_components.proofs.{SeenPhases.view-kept}
 use Rattle.aeth_components.specs.Changes.{event_done, switched}
 use Rattle.aeth_components.specs.Making.{link_stages, made_interface, made_router, made_stage}

@@ -4,54 +4,56 @@ use Rattle.std.proofs.Common.{length, subst}
 use Rattle.aeth_clocked.specs.{Wires.flit_on, declared.flit.Flit.Flit}
 use Rattle.aeth_components.specs.View.{queue_of}
 use Rattle.aeth_router.specs.Ports.{hopped}
-use Rattle.aeth_refinement.specs.{Accepted.IsAccepted, Carried.Exact, Fabric.AtRouter}
-use Rattle.aeth_refinement.specs.{Fabric.Fabric, Fabric.Owns, Fabric.server_at}
-use Rattle.aeth_refinement.proofs.Routers.{behind, goes_past, not_both, to_router}
-use Rattle.aeth_refinement.proofs.Routes.{hops-on}
+use Rattle.aeth_invariant.specs.WellRouted.{AreWellRouted}
+use Rattle.aeth_invariant.specs.Carried.{Exact}
+use Rattle.aeth_invariant.specs.RoutedSessions.{AtRouter, RoutedSessions, Owns, server_at}
+use Rattle.aeth_invariant.proofs.Routers.{behind, goes_past, not_both, to_router}
+use Rattle.aeth_invariant.proofs.Routes.{routers_passed-on}
 use Rattle.aeth_accepted.specs.Inputs.{Inputs}
-use Rattle.aeth_fabric.specs.Fabric.{fabric_of}
+use Rattle.aeth_routed_sessions.specs.RoutedSessions.{routed_sessions_of}
 use Rattle.aeth_running.specs.{Lossless.HasGoneOn, Lossless.LosesNothing, Network.first_network}
-use Rattle.aeth_running.specs.{Network.played, Routing.Routing, Running.IsRunning}
+use Rattle.aeth_running.specs.{Network.played, Routing.Routing, Running.HoldsBefore}
 use Rattle.aeth_running.proofs.NetworkWires.{exact, nothing-first, received, standing}
 
 -- Where wires are exact in two cycles, a flit that came to a router in the first goes on in the second.
-module _ (fabric : Fabric) (ok : IsAccepted fabric) (t : ℕ) (held : ℕ → Option Flit)
-    (before : Exact fabric t held) (m r : ℕ) (flit : Flit) (ends : fabric.end m ≡ AtRouter r)
+module _ (sessions : RoutedSessions) (ok : AreWellRouted sessions) (t : ℕ) (held : ℕ → Option Flit)
+    (before : Exact sessions t held) (m r : ℕ) (flit : Flit) (ends : sessions.end m ≡ AtRouter r)
     (has : held m ≡ Some flit) where
-  pub gone-on : (wire : ℕ → Option Flit) → Exact fabric (suc t) wire
-      → (n : ℕ) × (fabric.start n ≡ AtRouter r) × (wire n ≡ Some (hopped flit))
+  pub gone-on : (wire : ℕ → Option Flit) → Exact sessions (suc t) wire
+      → (n : ℕ) × (sessions.start n ≡ AtRouter r) × (wire n ≡ Some (hopped flit))
   gone-on wire after =
       let comes = before.only m flit has in
       let c = comes.number in
       let i = comes.place in
       let on = comes.on in
-      let next = goes_past fabric ok c i m on.known on.place
-      (not_both r (fabric.passage (fabric.opposite c)).ni (fabric.end m) ends) in
-      let through = to_router fabric ok c i m next.0 r on.known on.place next.1 ends in (
+      let next = goes_past sessions ok c i m on.known on.place
+      (not_both r (sessions.routed_session (sessions.opposite c)).ni (sessions.end m) ends) in
+      let through = to_router sessions ok c i m next.0 r on.known on.place next.1 ends in (
         next.0,
         through.1,
         after.all next.0 c (suc i) comes.cycle
-            (behind fabric ok m next.0 t c i comes.cycle on next.1)
+            (behind sessions ok m next.0 t c i comes.cycle on next.1)
             ∙ ap (λ (flit : Flit). Some flit)
             (sym (ap hopped comes.is
-            ∙ hops-on fabric ok c i m next.0 comes.cycle on.known through.0)),
+            ∙ routers_passed-on sessions ok c i m next.0 comes.cycle on.known through.0)),
       )
 
-module _ (inputs : Inputs) (ok : IsAccepted (fabric_of inputs)) (routing : Routing)
+module _ (inputs : Inputs) (ok : AreWellRouted (routed_sessions_of inputs)) (routing : Routing)
     (running : (t : ℕ) → t ≤ inputs.cycles
-    → IsRunning inputs t (played t (first_network inputs routing)).components) where
+    → HoldsBefore inputs t (played t (first_network inputs routing)).components) where
   -- So in each cycle of a network.
   routers-send : (t : ℕ) → t < inputs.cycles → (m r : ℕ) (flit : Flit)
-      → (fabric_of inputs).end m ≡ AtRouter r
+      → (routed_sessions_of inputs).end m ≡ AtRouter r
       → flit_on (played t (first_network inputs routing)).components.wires m ≡ Some flit
-      → HasGoneOn (fabric_of inputs) r flit
+      → HasGoneOn (routed_sessions_of inputs) r flit
       (played (t + 1) (first_network inputs routing)).components.wires
   routers-send zero early m r flit ends has =
       absurd (cc (sym (nothing-first inputs routing running m) ∙ has))
   routers-send (suc t) early m r flit ends has =
       let first = first_network inputs routing in
       let same : t + 1 ≡ suc t = omega arith in
-      let on = gone-on (fabric_of inputs) ok t (flit_on (played (t + 1) first).components.wires)
+      let on = gone-on (routed_sessions_of inputs) ok t
+      (flit_on (played (t + 1) first).components.wires)
       (exact inputs routing running t (omega (arith, early))) m r flit ends
       (subst (λ n. flit_on (played n first).components.wires m ≡ Some flit) (sym same) has)
       (flit_on (played (suc t + 1) first).components.wires)
@@ -59,10 +61,12 @@ module _ (inputs : Inputs) (ok : IsAccepted (fabric_of inputs)) (routing : Routi
       record { wire = on.0; starts = on.1; has = on.2 }
 
   pub loses-nothing : (t : ℕ) → t < inputs.cycles
-      → ((c : ℕ) → c < (fabric_of inputs).count → Owns (fabric_of inputs) c (t + 1)
+      → ((c : ℕ) → c < (routed_sessions_of inputs).count
+      → Owns (routed_sessions_of inputs) c (t + 1)
       → length (queue_of (played (t + 1) (first_network inputs routing)).components.parts
-      ((fabric_of inputs).passage c).ni ((fabric_of inputs).passage c).queue).received
-      ≤ (server_at (fabric_of inputs) ((fabric_of inputs).opposite c)).buffer)
+      ((routed_sessions_of inputs).routed_session c).ni
+      ((routed_sessions_of inputs).routed_session c).queue).received
+      ≤ (server_at (routed_sessions_of inputs) ((routed_sessions_of inputs).opposite c)).buffer)
       → LosesNothing inputs (t + 1) (played t (first_network inputs routing)).components
       (played (t + 1) (first_network inputs routing)).components
   loses-nothing t early buffer = record {

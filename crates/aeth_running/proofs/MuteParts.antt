@@ -14,11 +14,11 @@ use Rattle.aeth_router.specs.Router.{RouterState}
 use Rattle.aeth_router.specs.TableRouter.{TableRouterState}
 use Rattle.aeth_router.specs.declared.part.Part.{Part}
 use Rattle.aeth_router.specs.declared.part.Part.TheVariants.{Interface, Router, Stage, TableRouter}
-use Rattle.aeth_components.proofs.FrameLemmas.{AreDisjoint-parts, length-wires_driven}
-use Rattle.aeth_components.specs.{Components.wires_driven, Frames.Frame, Frames.IsWired}
-use Rattle.aeth_components.specs.{Frames.frame_of, Frames.sends_by, Turns.sends_own}
-use Rattle.aeth_invariant.proofs.Driving.{flit_on-driven, flit_on-past}
-use Rattle.aeth_invariant.specs.View.{HaveLatched}
+use Rattle.aeth_components.proofs.WiringLemmas.{AreDisjoint-parts, length-wires_driven}
+use Rattle.aeth_components.specs.{Components.wires_driven, Wirings.Wiring, Wirings.IsWired}
+use Rattle.aeth_components.specs.{Wirings.wiring_of, Wirings.sends_by, FlitsOnWires.sends_own}
+use Rattle.aeth_refinement.proofs.Driving.{flit_on-driven, flit_on-past}
+use Rattle.aeth_refinement.specs.View.{HaveLatched}
 
 -- A wire on which each component that sends there emits nothing is driven empty.
 pub driven-none : (parts : List Part) (cycle link : ℕ)
@@ -65,7 +65,7 @@ module _ (parts : List Part) (wires : List (Option Flit)) where
         latched.tables i router at ∙ nothing-from router.incoming
         ∙ ap (λ n. replicate n None) (sym (table-places i router at))
 
-  module _ (cycle : ℕ) (wired : IsWired (map frame_of parts) (length wires)) where
+  module _ (cycle : ℕ) (wired : IsWired (map wiring_of parts) (length wires)) where
     -- An interface whose leaving wire stays empty sends nothing.
     pub sent-none : ((l : ℕ) → flit_on (wires_driven parts (length wires) cycle) l ≡ None)
         → (i : ℕ) (ni : InterfaceState) → slice_get parts i ≡ Some (Interface ni)
@@ -73,9 +73,9 @@ module _ (parts : List Part) (wires : List (Option Flit)) where
     sent-none silent i ni at =
         let leaving = ni.leaving.0 in
         let own = eq-eqb leaving leaving refl in
-        let links = All-slice_get (λ (frame : Frame). AreLinks (sends_by frame) (length wires))
-        (map frame_of parts) i (frame_of (Interface ni)) wired.outputs
-        (slice_get-map frame_of parts i ∙ ap (option_map frame_of) at) in
+        let links = All-slice_get (λ (wiring : Wiring). AreLinks (sends_by wiring) (length wires))
+        (map wiring_of parts) i (wiring_of (Interface ni)) wired.outputs
+        (slice_get-map wiring_of parts i ∙ ap (option_map wiring_of) at) in
         sym (flit_on-driven parts (length wires) cycle leaving (links leaving own)
         ∙ driven-at outputs_of emit_of parts i cycle leaving (Interface ni)
         (AreDisjoint-parts parts (length wires) wired) at own)

@@ -3,13 +3,13 @@ use Rattle.std.proofs.Common.{◌≡◌, ◌∙◌, ℕ, zero, suc, ◌+◌, ◌
 use Rattle.std.proofs.Common.{arith, replicate}
 use Rattle.std.specs.List.{slice_index_or}
 use Rattle.aeth_trace.specs.Channels.{channel_number}
-use Rattle.aeth_components.specs.declared.lane.Lane.{Lane}
+use Rattle.aeth_components.specs.declared.channel_state.ChannelState.{ChannelState}
 use Rattle.aeth_accepted.specs.Inputs.{Inputs}
-use Rattle.aeth_schedule.specs.declared.going.Going.{Going}
+use Rattle.aeth_schedule.specs.declared.session_start.SessionStart.{SessionStart}
 use Rattle.aeth_running.specs.{FirstLog.first_log, Network.NetworkState, Network.first_network}
-use Rattle.aeth_running.specs.{Network.goings_in, Network.outside_in, Network.played}
+use Rattle.aeth_running.specs.{Network.session_starts_in, Network.outside_in, Network.played}
 use Rattle.aeth_running.specs.{Network.stepped, Network.untils_in, Routing.Routing}
-use Rattle.aeth_stimuli.specs.{Loaded.no_lane, Stimuli.stimuli_of}
+use Rattle.aeth_stimuli.specs.{Loaded.no_channel_state, Stimuli.stimuli_of}
 
 -- One cycle more.
 pub played-next : (all : NetworkState) (t : ℕ) → played (t + 1) all ≡ stepped (played t all)
@@ -76,11 +76,13 @@ module _ (inputs : Inputs) (routing : Routing) where
   stepped-outside all = refl
 
   -- How channels stand in a network where sessions go.
-  abbrev stood_in : NetworkState → Going → Lane
-  stood_in all going = slice_index_or all.components.lanes (channel_number going.channel) no_lane
+  abbrev stood_in : NetworkState → SessionStart → ChannelState
+  stood_in all session_start =
+      slice_index_or all.components.channel_states (channel_number session_start.channel)
+      no_channel_state
 
   stepped-replaced : (all : NetworkState) → (stepped all).replaced
-      ≡ all.replaced ++ map (stood_in all) (goings_in all.stimuli all.time)
+      ≡ all.replaced ++ map (stood_in all) (session_starts_in all.stimuli all.time)
   unfolding stepped
   stepped-replaced all = refl
 
@@ -108,13 +110,16 @@ module _ (inputs : Inputs) (routing : Routing) where
   -- How channels stood before sessions went.
   pub replaced-next : (t : ℕ) → (played (t + 1) (first_network inputs routing)).replaced
       ≡ (played t (first_network inputs routing)).replaced
-      ++ map (λ going. slice_index_or (played t (first_network inputs routing)).components.lanes
-      (channel_number going.channel) no_lane) (goings_in (stimuli_of inputs) t)
+      ++ map (λ session_start. slice_index_or
+      (played t (first_network inputs routing)).components.channel_states
+      (channel_number session_start.channel) no_channel_state)
+      (session_starts_in (stimuli_of inputs) t)
   replaced-next t =
       let all = network_at t in
       ap (λ (net : NetworkState). net.replaced) (played-next (first_network inputs routing) t)
       ∙ stepped-replaced all
-      ∙ (λ q. all.replaced ++ map (stood_in all) (goings_in (played-stimuli t q) (played-time t q)))
+      ∙ (λ q. all.replaced
+      ++ map (stood_in all) (session_starts_in (played-stimuli t q) (played-time t q)))
 
 -- Before the first cycle no channel accepts words.
 pub untils-first : (inputs : Inputs) (routing : Routing) → (played 0 (first_network inputs routing)).untils

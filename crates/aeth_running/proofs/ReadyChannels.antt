@@ -7,23 +7,25 @@ use Rattle.std.proofs.lemmas.Bool.{cases_lt}
 use Rattle.std.specs.List.Sorted.{IsNonDecreasingBy}
 use Rattle.aeth_base.specs.declared.ids.Channel.{Channel}
 use Rattle.aeth_trace.specs.{Channels.channel_number, Words.words_on}
-use Rattle.aeth_components.specs.declared.lane.Lane.{Lane}
+use Rattle.aeth_components.specs.declared.channel_state.ChannelState.{ChannelState}
 use Rattle.aeth_server.specs.PrivateServer.{arrived}
-use Rattle.aeth_refinement.specs.Fabric.{server_at}
+use Rattle.aeth_invariant.specs.RoutedSessions.{server_at}
 use Rattle.aeth_accepted.specs.Inputs.{Inputs, run_of}
-use Rattle.aeth_fabric.specs.Fabric.{fabric_of}
-use Rattle.aeth_schedule.specs.{Values.before_of, Values.start_of, declared.going.Going.Going}
+use Rattle.aeth_routed_sessions.specs.RoutedSessions.{routed_sessions_of}
+use Rattle.aeth_schedule.specs.Values.{before_of, start_of}
+use Rattle.aeth_schedule.specs.declared.session_start.SessionStart.{SessionStart}
 use Rattle.aeth_running.proofs.Arrivals.{between, is_between, more-in, none-by, none-in}
 use Rattle.aeth_running.proofs.Arrivals.{past-between}
 use Rattle.aeth_running.proofs.ChannelNumbers.{channel-same}
 use Rattle.aeth_running.proofs.ChannelRows.{offers-now, pull-now, pull_before}
 use Rattle.aeth_running.proofs.ChannelStates.{HasChannel, StandsAt, Unused, Used}
-use Rattle.aeth_running.proofs.FabricSessions.{session_at, until-same}
-use Rattle.aeth_running.proofs.GoingSessions.{GoesNow, NoneGoes, OneGoes, going_now}
-use Rattle.aeth_running.proofs.LaneLookups.{entered, lane-in, until-in}
-use Rattle.aeth_running.specs.Network.{NetworkState, lanes_in, offers_in, ready_in, takes_in}
-use Rattle.aeth_running.specs.Network.{untils_in}
-use Rattle.aeth_stimuli.specs.Sessions.{SessionGoing, as_going, channel_of, first_of, going_of}
+use Rattle.aeth_running.proofs.NumberedSessions.{session_at, until-same}
+use Rattle.aeth_running.proofs.SessionsInUse.{GoesNow, NoneGoes, OneGoes, session_start_now}
+use Rattle.aeth_running.proofs.ChannelStateLookups.{entered, channel_state-in, until-in}
+use Rattle.aeth_running.specs.Network.{NetworkState, channel_states_in, offers_in, ready_in}
+use Rattle.aeth_running.specs.Network.{takes_in, untils_in}
+use Rattle.aeth_stimuli.specs.Sessions.{SessionStartData, as_session_start, channel_of, first_of}
+use Rattle.aeth_stimuli.specs.Sessions.{session_start_of}
 use Rattle.aeth_stimuli.specs.Stimuli.{Stimuli, Take, stimuli_of}
 use Rattle.aeth_report.specs.SessionList.{listed_at}
 
@@ -44,14 +46,14 @@ module _ (inputs : Inputs) (c : ℕ) (channel : Channel)
       ∙ ap (λ (one : Channel). length (filter (λ cycle. cycle == t) (cycles_on one))) (sym own)
 
   -- From its go on those before it stops are accepted.
-  pub arrives-more : (server_at (fabric_of inputs) c).go ≤ t
-      → arrived (server_at (fabric_of inputs) c) t
-      + (if nat_lt t (server_at (fabric_of inputs) c).until then
+  pub arrives-more : (server_at (routed_sessions_of inputs) c).go ≤ t
+      → arrived (server_at (routed_sessions_of inputs) c) t
+      + (if nat_lt t (server_at (routed_sessions_of inputs) c).until then
       length (filter (λ offer. offer.number == channel_number channel)
       (offers_in (stimuli_of inputs) t)) else 0)
-      ≡ arrived (server_at (fabric_of inputs) c) (t + 1)
+      ≡ arrived (server_at (routed_sessions_of inputs) c) (t + 1)
   arrives-more goes =
-      let server = server_at (fabric_of inputs) c in
+      let server = server_at (routed_sessions_of inputs) c in
       let test = is_between server.go server.until in
       let mine = cycles_on (listed_at (run_of inputs) c).channel in
       elim (cases_lt t server.until) [
@@ -65,41 +67,47 @@ module _ (inputs : Inputs) (c : ℕ) (channel : Channel)
       ]
 
   -- As it goes nothing has arrived yet.
-  pub arrives-none : t ≤ (server_at (fabric_of inputs) c).go
-      → arrived (server_at (fabric_of inputs) c) t ≡ 0
+  pub arrives-none : t ≤ (server_at (routed_sessions_of inputs) c).go
+      → arrived (server_at (routed_sessions_of inputs) c) t ≡ 0
   arrives-none soon =
-      let server = server_at (fabric_of inputs) c in
+      let server = server_at (routed_sessions_of inputs) c in
       none-by server.go server.until t soon (cycles_on (listed_at (run_of inputs) c).channel)
 
 module _ (inputs : Inputs) (t : ℕ) (channel : Channel) where
   -- The channel in the cycle has a session that goes in it, of which nothing is done, or it is as before
   -- but for what it has accepted and how its receiver takes.
-  pub data IsChanged (before : Lane) (until : ℕ) (after : Lane) : Type 0 where
-    Loads : (c : ℕ) → c < (fabric_of inputs).count
+  pub data IsChanged (before : ChannelState) (until : ℕ) (after : ChannelState) : Type 0 where
+    Loads : (c : ℕ) → c < (routed_sessions_of inputs).count
         → (listed_at (run_of inputs) c).channel ≡ channel
-        → (server_at (fabric_of inputs) c).go ≡ t
-        → (going : Going) → going_now inputs t channel ≡ going ∷ []
-        → as_going going ≡ going_of inputs channel (session_at inputs c)
-        → after ≡ record going.lane { accepted = after.accepted; pull = after.pull }
-        → after.accepted ≡ arrived (server_at (fabric_of inputs) c) (t + 1)
+        → (server_at (routed_sessions_of inputs) c).go ≡ t
+        → (session_start : SessionStart) → session_start_now inputs t channel ≡ session_start ∷ []
+        → as_session_start session_start ≡ session_start_of inputs channel (session_at inputs c)
+        → after ≡ record session_start.channel_state {
+          accepted = after.accepted;
+          pull =
+              after.pull;
+        }
+        → after.accepted ≡ arrived (server_at (routed_sessions_of inputs) c) (t + 1)
         → IsChanged before until after
-    Stays : ((c : ℕ) → c < (fabric_of inputs).count → channel_of inputs c ≡ channel_number channel
-        → (server_at (fabric_of inputs) c).go ≡ t → ⊥)
+    Stays : ((c : ℕ) → c < (routed_sessions_of inputs).count
+        → channel_of inputs c ≡ channel_number channel
+        → (server_at (routed_sessions_of inputs) c).go ≡ t → ⊥)
         → after ≡ record before { accepted = after.accepted; pull = after.pull }
         → before.accepted ≤ after.accepted
         → (until ≤ t → after.accepted ≡ before.accepted)
         → IsChanged before until after
 
   -- A network has the channel so, once it is ready for the cycle.
-  pub record IsReady (network : NetworkState) (before : Lane) : Type 0 where
-    pub lane : Lane
+  pub record IsReady (network : NetworkState) (before : ChannelState) : Type 0 where
+    pub channel_state : ChannelState
     pub until_now : ℕ
-    pub at : slice_get (ready_in network).lanes (channel_number channel) ≡ Some lane
+    pub at : slice_get (ready_in network).channel_states (channel_number channel)
+        ≡ Some channel_state
     pub until_at : slice_get (untils_in network.stimuli network.time network.untils)
         (channel_number channel) ≡ Some until_now
-    pub pull_is : lane.pull ≡ pull_before inputs channel (t + 1)
-    pub stands : StandsAt inputs (t + 1) channel until_now lane
-    pub changed : IsChanged before until_now lane
+    pub pull_is : channel_state.pull ≡ pull_before inputs channel (t + 1)
+    pub stands : StandsAt inputs (t + 1) channel until_now channel_state
+    pub changed : IsChanged before until_now channel_state
 
   module _ (early : t < inputs.cycles) (order : IsNonDecreasingBy (λ row. row.cycle) inputs.pulls)
       (goes : GoesNow inputs t channel) (network : NetworkState)
@@ -115,54 +123,61 @@ module _ (inputs : Inputs) (t : ℕ) (channel : Channel) where
     takes = filter (λ take. take.number == channel_number channel) (takes_in (stimuli_of inputs) t)
 
     -- The channel in the cycle, and until when it accepts words, where these sessions go.
-    abbrev until_by : List Going → ℕ
-    until_by goings = fold (λ before going. going.until) has.until goings
+    abbrev until_by : List SessionStart → ℕ
+    until_by session_starts =
+        fold (λ before session_start. session_start.until) has.until session_starts
 
-    abbrev lane_by : List Going → Lane
-    lane_by goings =
-        let gone = fold entered has.lane goings in
+    abbrev channel_state_by : List SessionStart → ChannelState
+    channel_state_by session_starts =
+        let gone = fold entered has.channel_state session_starts in
         record gone {
-          accepted = gone.accepted + (if nat_lt t (until_by goings)
+          accepted = gone.accepted + (if nat_lt t (until_by session_starts)
               then length (filter (λ offer. offer.number == n) (offers_in all t)) else 0);
           pull = fold (λ before take. take.pull) gone.pull takes;
         }
 
-    until-by : (goings : List Going) → going_now inputs t channel ≡ goings
+    until-by : (session_starts : List SessionStart)
+        → session_start_now inputs t channel ≡ session_starts
         → slice_get (untils_in network.stimuli network.time network.untils) n
-        ≡ Some (until_by goings)
-    until-by goings are = (λ i. slice_get (untils_in (stimuli_are i) (time_is i) network.untils) n)
+        ≡ Some (until_by session_starts)
+    until-by session_starts are =
+        (λ i. slice_get (untils_in (stimuli_are i) (time_is i) network.untils) n)
         ∙ until-in all t n network.untils has.until has.until_at
-        ∙ ap (λ (some : List Going). Some (until_by some)) are
+        ∙ ap (λ (some : List SessionStart). Some (until_by some)) are
 
-    lane-by : (goings : List Going) → going_now inputs t channel ≡ goings
-        → slice_get (ready_in network).lanes n ≡ Some (lane_by goings)
-    lane-by goings are =
+    channel_state-by : (session_starts : List SessionStart)
+        → session_start_now inputs t channel ≡ session_starts
+        → slice_get (ready_in network).channel_states n ≡ Some (channel_state_by session_starts)
+    channel_state-by session_starts are =
         let untils = untils_in all t network.untils in
-        (λ i. slice_get (lanes_in (stimuli_are i) (time_is i)
-        (untils_in (stimuli_are i) (time_is i) network.untils) network.components.lanes) n)
-        ∙ lane-in all t n untils (until_by (going_now inputs t channel)) network.components.lanes
-        has.lane (until-in all t n network.untils has.until has.until_at) has.at
-        ∙ ap (λ (some : List Going). Some (lane_by some)) are
+        (λ i. slice_get (channel_states_in (stimuli_are i) (time_is i)
+        (untils_in (stimuli_are i) (time_is i) network.untils) network.components.channel_states) n)
+        ∙ channel_state-in all t n untils (until_by (session_start_now inputs t channel))
+        network.components.channel_states
+        has.channel_state (until-in all t n network.untils has.until has.until_at) has.at
+        ∙ ap (λ (some : List SessionStart). Some (channel_state_by some)) are
 
-    pulls : fold (λ before take. take.pull) has.lane.pull takes ≡ pull_before inputs channel (t + 1)
+    pulls : fold (λ before take. take.pull) has.channel_state.pull takes
+        ≡ pull_before inputs channel (t + 1)
     pulls = ap (λ (pull : ℕ). fold (λ before take. take.pull) pull takes) has.pull_is
         ∙ pull-now inputs t early channel order
 
     -- Where no session goes.
-    module _ (none : going_now inputs t channel ≡ [])
-        (never : (c : ℕ) → c < (fabric_of inputs).count
+    module _ (none : session_start_now inputs t channel ≡ [])
+        (never : (c : ℕ) → c < (routed_sessions_of inputs).count
         → channel_of inputs c ≡ channel_number channel
-        → (server_at (fabric_of inputs) c).go ≡ t → ⊥) where
-      earlier : (c : ℕ) → c < (fabric_of inputs).count
+        → (server_at (routed_sessions_of inputs) c).go ≡ t → ⊥) where
+      earlier : (c : ℕ) → c < (routed_sessions_of inputs).count
           → channel_of inputs c ≡ channel_number channel
-          → (server_at (fabric_of inputs) c).go < t + 1 → (server_at (fabric_of inputs) c).go < t
-      earlier c h on soon = elim (cases_lt (server_at (fabric_of inputs) c).go t) [
+          → (server_at (routed_sessions_of inputs) c).go < t + 1
+          → (server_at (routed_sessions_of inputs) c).go < t
+      earlier c h on soon = elim (cases_lt (server_at (routed_sessions_of inputs) c).go t) [
         | inl before ↦ before
         | inr now ↦ absurd (never c h on (omega (arith, soon, now)))
       ]
 
-      stays : StandsAt inputs t channel has.until has.lane
-          → StandsAt inputs (t + 1) channel has.until (lane_by [])
+      stays : StandsAt inputs t channel has.until has.channel_state
+          → StandsAt inputs (t + 1) channel has.until (channel_state_by [])
       stays (Unused no_session zero_until) =
           Unused (λ c h on soon. no_session c h on (earlier c h on soon)) zero_until
       stays (Used c latest on until accepts first) =
@@ -177,11 +192,11 @@ module _ (inputs : Inputs) (t : ℕ) (channel : Channel) where
           then length (filter (λ offer. offer.number == n) (offers_in all t)) else 0))
           ∙ arrives-more inputs c channel own t early (omega (arith, gone))) first
 
-      ready-none : IsReady network has.lane
+      ready-none : IsReady network has.channel_state
       ready-none = record {
-        lane = lane_by [];
+        channel_state = channel_state_by [];
         until_now = has.until;
-        at = lane-by [] none;
+        at = channel_state-by [] none;
         until_at = until-by [] none;
         pull_is = pulls;
         stands = stays has.stands;
@@ -189,48 +204,50 @@ module _ (inputs : Inputs) (t : ℕ) (channel : Channel) where
       }
 
     -- Where one does.
-    module _ (c : ℕ) (known : c < (fabric_of inputs).count)
+    module _ (c : ℕ) (known : c < (routed_sessions_of inputs).count)
         (own : (listed_at (run_of inputs) c).channel ≡ channel)
-        (go : (server_at (fabric_of inputs) c).go ≡ t) (going : Going)
-        (is : going_now inputs t channel ≡ going ∷ [])
-        (same : as_going going ≡ going_of inputs channel (session_at inputs c)) where
-      until-is : going.until ≡ (server_at (fabric_of inputs) c).until
-      until-is = ap (λ (one : SessionGoing). one.until) same
+        (go : (server_at (routed_sessions_of inputs) c).go ≡ t) (session_start : SessionStart)
+        (is : session_start_now inputs t channel ≡ session_start ∷ [])
+        (same : as_session_start session_start
+        ≡ session_start_of inputs channel (session_at inputs c)) where
+      until-is : session_start.until ≡ (server_at (routed_sessions_of inputs) c).until
+      until-is = ap (λ (one : SessionStartData). one.until) same
           ∙ until-same inputs.cycles (session_at inputs c)
 
-      accepts-now : (lane_by (going ∷ [])).accepted
-          ≡ arrived (server_at (fabric_of inputs) c) (t + 1)
+      accepts-now : (channel_state_by (session_start ∷ [])).accepted
+          ≡ arrived (server_at (routed_sessions_of inputs) c) (t + 1)
       accepts-now =
-          let nothing : going.lane.accepted ≡ 0 =
-          ap (λ (one : SessionGoing). one.lane.accepted) same in
+          let nothing : session_start.channel_state.accepted ≡ 0 =
+          ap (λ (one : SessionStartData). one.channel_state.accepted) same in
           let none = arrives-none inputs c channel own t early (omega (arith, go)) in
           let first = nothing ∙ sym none in
           (λ i. first i + (if nat_lt t (until-is i)
           then length (filter (λ offer. offer.number == n) (offers_in all t)) else 0))
           ∙ arrives-more inputs c channel own t early (omega (arith, go))
 
-      first-is : going.lane.first ≡ first_of inputs c
-      first-is = ap (λ (one : SessionGoing). one.lane.first) same
+      first-is : session_start.channel_state.first ≡ first_of inputs c
+      first-is = ap (λ (one : SessionStartData). one.channel_state.first) same
           ∙ (λ i. start_of inputs.words (sym own i)
           + before_of inputs.words (sym own i) (session_at inputs c).go)
 
-      ready-one : IsReady network has.lane
+      ready-one : IsReady network has.channel_state
       ready-one = record {
-        lane = lane_by (going ∷ []);
-        until_now = going.until;
-        at = lane-by (going ∷ []) is;
-        until_at = until-by (going ∷ []) is;
+        channel_state = channel_state_by (session_start ∷ []);
+        until_now = session_start.until;
+        at = channel_state-by (session_start ∷ []) is;
+        until_at = until-by (session_start ∷ []) is;
         pull_is = pulls;
         stands = Used c (record {
           known = known;
           gone = omega (arith, go);
           last = λ d h soon on. omega (arith, soon, go);
         }) (ap channel_number own) until-is accepts-now first-is;
-        changed = Loads c known own go going is same refl accepts-now;
+        changed = Loads c known own go session_start is same refl accepts-now;
       }
 
-    pub ready : IsReady network has.lane
+    pub ready : IsReady network has.channel_state
     ready = elim goes [
       | NoneGoes none never ↦ ready-none none never
-      | OneGoes c known own go going is same ↦ ready-one c known own go going is same
+      | OneGoes c known own go session_start is same ↦
+          ready-one c known own go session_start is same
     ]

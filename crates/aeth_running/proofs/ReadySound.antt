@@ -7,33 +7,34 @@ use Rattle.std.proofs.lemmas.Option.{same_Some, slice_get-get_or}
 use Rattle.std.specs.List.{All}
 use Rattle.aeth_base.specs.declared.ids.Channel.{Channel}
 use Rattle.aeth_trace.specs.Channels.{channel_number}
-use Rattle.aeth_components.specs.{Components.IsComponents, Components.frames_of, Frames.Frame}
-use Rattle.aeth_components.specs.{Frames.IsWired, Frames.frame_of, Lanes.IsLane}
-use Rattle.aeth_components.specs.{declared.lane.Lane.Lane}
+use Rattle.aeth_components.specs.{Components.IsComponents, Components.wirings_of, Wirings.Wiring}
+use Rattle.aeth_components.specs.{Wirings.IsWired, Wirings.wiring_of, ChannelStates.IsChannelState}
+use Rattle.aeth_components.specs.{declared.channel_state.ChannelState.ChannelState}
 use Rattle.aeth_server.specs.PrivateServer.{accepted, arrived}
-use Rattle.aeth_refinement.specs.{Accepted.IsAccepted, Fabric.server_at}
+use Rattle.aeth_invariant.specs.{WellRouted.AreWellRouted, RoutedSessions.server_at}
 use Rattle.aeth_accepted.specs.Inputs.{Inputs}
-use Rattle.aeth_fabric.specs.Fabric.{fabric_of}
-use Rattle.aeth_schedule.specs.{Goings.goings_of, Values.before_of, Values.start_of}
-use Rattle.aeth_schedule.specs.{declared.going.Going.Going}
-use Rattle.aeth_invariant.{proofs.Routed.frames-but_tables, specs.Places.ArePlaced}
+use Rattle.aeth_routed_sessions.specs.RoutedSessions.{routed_sessions_of}
+use Rattle.aeth_schedule.specs.{SessionStarts.session_starts_of, Values.before_of, Values.start_of}
+use Rattle.aeth_schedule.specs.{declared.session_start.SessionStart.SessionStart}
+use Rattle.aeth_refinement.{proofs.Routed.wirings-but_tables, specs.Places.ArePlaced}
 use Rattle.aeth_running.proofs.{ChannelNumbers.channel-of, ChannelStates.StandsAt}
-use Rattle.aeth_running.proofs.{ChannelStates.Unused, ChannelStates.Used, FabricSessions.session_at}
-use Rattle.aeth_running.proofs.{GoingSessions.going_now, LaneLookups.length-lanes_in}
+use Rattle.aeth_running.proofs.{ChannelStates.Unused, ChannelStates.Used}
+use Rattle.aeth_running.proofs.{NumberedSessions.session_at, SessionsInUse.session_start_now}
+use Rattle.aeth_running.proofs.{ChannelStateLookups.length-channel_states_in}
 use Rattle.aeth_running.proofs.{ReadyChannels.IsChanged, ReadyChannels.IsReady, ReadyChannels.Loads}
 use Rattle.aeth_running.proofs.{ReadyChannels.Stays, RouterTables.but-entered}
-use Rattle.aeth_running.specs.Network.{NetworkState, goings_in, ready_in, untils_in}
+use Rattle.aeth_running.specs.Network.{NetworkState, session_starts_in, ready_in, untils_in}
 use Rattle.aeth_running.specs.Routing.{enterings_in}
-use Rattle.aeth_stimuli.specs.Sessions.{SessionGoing, first_of}
+use Rattle.aeth_stimuli.specs.Sessions.{SessionStartData, first_of}
 use Rattle.aeth_stimuli.specs.Stimuli.{is_over, stimuli_of}
 
-module _ (inputs : Inputs) (ok : IsAccepted (fabric_of inputs)) (words : ℕ)
-    (placed : ArePlaced (fabric_of inputs) (first_of inputs) words) where
+module _ (inputs : Inputs) (ok : AreWellRouted (routed_sessions_of inputs)) (words : ℕ)
+    (placed : ArePlaced (routed_sessions_of inputs) (first_of inputs) words) where
   -- The words of a session that have arrived are within those of all.
-  arrived-within : (c t : ℕ) → c < (fabric_of inputs).count
-      → first_of inputs c + arrived (server_at (fabric_of inputs) c) t ≤ words
+  arrived-within : (c t : ℕ) → c < (routed_sessions_of inputs).count
+      → first_of inputs c + arrived (server_at (routed_sessions_of inputs) c) t ≤ words
   arrived-within c t known =
-      let server = server_at (fabric_of inputs) c in
+      let server = server_at (routed_sessions_of inputs) c in
       let all = accepted server in
       let room = placed.within c known in
       let values = (ok.given c known).values in
@@ -41,11 +42,13 @@ module _ (inputs : Inputs) (ok : IsAccepted (fabric_of inputs)) (words : ℕ)
       let few = count_by-le-length (λ (a : ℕ). nat_lt a t) all in
       omega (arith, room, values, count, few)
 
-  module _ (parts t : ℕ) (channel : Channel) (before : Lane)
-      (sound : IsLane words parts before)
-      (goings-sound : All (λ going. IsLane words parts going.lane) (goings_of inputs)) where
+  module _ (parts t : ℕ) (channel : Channel) (before : ChannelState)
+      (sound : IsChannelState words parts before)
+      (session_starts-sound : All
+      (λ session_start. IsChannelState words parts session_start.channel_state)
+      (session_starts_of inputs)) where
     -- A channel that goes on.
-    kept-within : (until : ℕ) (after : Lane)
+    kept-within : (until : ℕ) (after : ChannelState)
         → after ≡ record before { accepted = after.accepted; pull = after.pull }
         → (until ≤ t → after.accepted ≡ before.accepted)
         → StandsAt inputs (t + 1) channel until after
@@ -56,58 +59,68 @@ module _ (inputs : Inputs) (ok : IsAccepted (fabric_of inputs)) (words : ℕ)
         omega (arith, same, room)
     kept-within until after is idle (Used c latest on until_is accepts first) =
         let room = arrived-within c (t + 1) latest.known in
-        let same = ap (λ (one : Lane). one.first) is in
+        let same = ap (λ (one : ChannelState). one.first) is in
         omega (arith, room, accepts, first, same)
 
     -- A session that goes.
-    going-sound : (going : Going) → going_now inputs t channel ≡ going ∷ []
-        → IsLane words parts going.lane
-    going-sound going is =
-        let now = goings_in (stimuli_of inputs) t in
+    session_start-sound : (session_start : SessionStart)
+        → session_start_now inputs t channel ≡ session_start ∷ []
+        → IsChannelState words parts session_start.channel_state
+    session_start-sound session_start is =
+        let now = session_starts_in (stimuli_of inputs) t in
         let over = is_over (channel_number channel) in
-        All-head (λ (one : Going). IsLane words parts one.lane) going []
-        (subst (λ (some : List Going). All (λ (one : Going). IsLane words parts one.lane) some) is
-        (All-filter over (λ (one : Going). IsLane words parts one.lane) now
-        (All-filter (λ (one : Going). one.lane.go == t) (λ (one : Going). IsLane words parts one.lane)
-        (goings_of inputs) goings-sound)))
+        All-head (λ (one : SessionStart). IsChannelState words parts one.channel_state)
+        session_start []
+        (subst (λ (some : List SessionStart). All
+        (λ (one : SessionStart). IsChannelState words parts one.channel_state) some) is
+        (All-filter over (λ (one : SessionStart). IsChannelState words parts one.channel_state) now
+        (All-filter (λ (one : SessionStart). one.channel_state.go == t)
+        (λ (one : SessionStart). IsChannelState words parts one.channel_state)
+        (session_starts_of inputs) session_starts-sound)))
 
-    lane-sound : (until : ℕ) (after : Lane) → StandsAt inputs (t + 1) channel until after
-        → IsChanged inputs t channel before until after → IsLane words parts after
-    lane-sound until after stands (Stays never is grows idle) =
-        let handed = sound.handed in
-        subst (IsLane words parts) (sym is) (record {
+    channel_state-sound : (until : ℕ) (after : ChannelState)
+        → StandsAt inputs (t + 1) channel until after
+        → IsChanged inputs t channel before until after → IsChannelState words parts after
+    channel_state-sound until after stands (Stays never is grows idle) =
+        let enqueued = sound.enqueued in
+        subst (IsChannelState words parts) (sym is) (record {
           sender = sound.sender;
           receiver = sound.receiver;
           taken = sound.taken;
           landed = sound.landed;
-          handed = omega (arith, handed, grows);
+          enqueued = omega (arith, enqueued, grows);
           within = kept-within until after is idle stands;
         })
-    lane-sound until after stands (Loads c known own go going now same is accepts) =
-        let one = going-sound going now in
-        let nothing = ap (λ (other : SessionGoing). other.lane.handed) same in
+    channel_state-sound until after stands
+        (Loads c known own go session_start now same is accepts) =
+        let one = session_start-sound session_start now in
+        let nothing = ap (λ (other : SessionStartData). other.channel_state.enqueued) same in
         let room = arrived-within c (t + 1) known in
-        let first : going.lane.first ≡ first_of inputs c =
-        ap (λ (other : SessionGoing). other.lane.first) same
+        let first : session_start.channel_state.first ≡ first_of inputs c =
+        ap (λ (other : SessionStartData). other.channel_state.first) same
         ∙ ap (λ (other : Channel). start_of inputs.words other
         + before_of inputs.words other (session_at inputs c).go) (sym own) in
-        subst (IsLane words parts) (sym is) (record {
+        subst (IsChannelState words parts) (sym is) (record {
           sender = one.sender;
           receiver = one.receiver;
           taken = one.taken;
           landed = one.landed;
-          handed = omega (arith, nothing);
+          enqueued = omega (arith, nothing);
           within = omega (arith, room, first, accepts);
         })
 
-module _ (inputs : Inputs) (ok : IsAccepted (fabric_of inputs)) (t : ℕ) (network : NetworkState)
-    (placed : ArePlaced (fabric_of inputs) (first_of inputs) (length network.components.words))
-    (goings-sound : All (λ going. IsLane (length network.components.words)
-    (length network.components.parts) going.lane) (goings_of inputs))
-    (lanes_are : length network.components.lanes ≡ 2 * length inputs.app.connections)
-    (before : (channel : Channel) → channel.conn.0 < length inputs.app.connections → Lane)
+module _ (inputs : Inputs) (ok : AreWellRouted (routed_sessions_of inputs)) (t : ℕ)
+    (network : NetworkState)
+    (placed : ArePlaced (routed_sessions_of inputs) (first_of inputs)
+    (length network.components.words))
+    (session_starts-sound : All (λ session_start. IsChannelState (length network.components.words)
+    (length network.components.parts) session_start.channel_state) (session_starts_of inputs))
+    (channel_states_are : length network.components.channel_states
+    ≡ 2 * length inputs.app.connections)
+    (before : (channel : Channel) → channel.conn.0 < length inputs.app.connections → ChannelState)
     (before-at : (channel : Channel) (known : channel.conn.0 < length inputs.app.connections)
-    → slice_get network.components.lanes (channel_number channel) ≡ Some (before channel known))
+    → slice_get network.components.channel_states (channel_number channel)
+    ≡ Some (before channel known))
     (readies : (channel : Channel) (known : channel.conn.0 < length inputs.app.connections)
     → IsReady inputs t channel network (before channel known)) where
   -- What holds of the components holds once they are ready.
@@ -115,39 +128,42 @@ module _ (inputs : Inputs) (ok : IsAccepted (fabric_of inputs)) (t : ℕ) (netwo
   ready-sound sound =
       let words = length network.components.words in
       let parts = length network.components.parts in
-      let lanes = network.components.lanes in
-      let then = (ready_in network).lanes in
-      let count : length then ≡ length lanes =
-      length-lanes_in network.stimuli network.time
-      (untils_in network.stimuli network.time network.untils) lanes in
-      let frames : frames_of (ready_in network) ≡ frames_of network.components =
-      frames-but_tables (ready_in network).parts network.components.parts
+      let channel_states = network.components.channel_states in
+      let then = (ready_in network).channel_states in
+      let count : length then ≡ length channel_states =
+      length-channel_states_in network.stimuli network.time
+      (untils_in network.stimuli network.time network.untils) channel_states in
+      let wirings : wirings_of (ready_in network) ≡ wirings_of network.components =
+      wirings-but_tables (ready_in network).parts network.components.parts
       (but-entered (enterings_in network.routing network.time) network.components.parts) in
       let same : length (ready_in network).parts ≡ parts =
-      sym (length-map (ready_in network).parts frame_of) ∙ ap length frames
-      ∙ length-map network.components.parts frame_of in
+      sym (length-map (ready_in network).parts wiring_of) ∙ ap length wirings
+      ∙ length-map network.components.parts wiring_of in
       record {
-        wired = subst (λ (list : List Frame). IsWired list (length network.components.wires))
-            (sym frames) sound.wired;
-        lanes = subst (λ (n : ℕ). All (IsLane words n) then) (sym same) (λ k default within.
+        wired = subst (λ (list : List Wiring). IsWired list (length network.components.wires))
+            (sym wirings) sound.wired;
+        channel_states =
+            subst (λ (n : ℕ). All (IsChannelState words n) then) (sym same) (λ k default within.
             let numbered = channel-of (length inputs.app.connections) k
-            (omega (arith, within, count, lanes_are)) in
+            (omega (arith, within, count, channel_states_are)) in
             let one = readies numbered.channel numbered.known in
             let place = numbered.is in
-            let here = ap (λ (n : ℕ). slice_get lanes n) (sym place)
+            let here = ap (λ (n : ℕ). slice_get channel_states n) (sym place)
             ∙ before-at numbered.channel numbered.known in
-            let was : get_or lanes k default ≡ before numbered.channel numbered.known =
-            same_Some (get_or lanes k default) (before numbered.channel numbered.known)
-            (sym (slice_get-get_or lanes k default (omega (arith, within, count))) ∙ here) in
-            let now : one.lane ≡ get_or then k default =
-            same_Some one.lane (get_or then k default)
+            let was : get_or channel_states k default ≡ before numbered.channel numbered.known =
+            same_Some (get_or channel_states k default) (before numbered.channel numbered.known)
+            (sym (slice_get-get_or channel_states k default (omega (arith, within, count))) ∙ here)
+            in
+            let now : one.channel_state ≡ get_or then k default =
+            same_Some one.channel_state (get_or then k default)
             (sym one.at ∙ ap (λ (n : ℕ). slice_get then n) place
             ∙ slice_get-get_or then k default within) in
-            subst (IsLane words parts) now
-            (lane-sound inputs ok words placed parts t numbered.channel
+            subst (IsChannelState words parts) now
+            (channel_state-sound inputs ok words placed parts t numbered.channel
             (before numbered.channel numbered.known)
-            (subst (IsLane words parts) was
-            (sound.lanes k default (omega (arith, within, count)))) goings-sound one.until_now one.lane
+            (subst (IsChannelState words parts) was
+            (sound.channel_states k default (omega (arith, within, count)))) session_starts-sound
+            one.until_now one.channel_state
             one.stands one.changed));
         landings = sound.landings;
         flits = sound.flits;

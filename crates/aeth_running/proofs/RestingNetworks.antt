@@ -1,4 +1,4 @@
--- A network of accepted inputs in an idle cycle: refilling hands nothing on.
+-- A network of accepted inputs in an idle cycle: refilling enqueues nothing.
 use Rattle.std.proofs.Common.{◌≡◌, ◌≤◌, ◌<◌, ◌⊎◌, ◌∙◌, ◌+◌, ◌-◌, ℕ, suc, Contains, List, [], ◌∷◌}
 use Rattle.std.proofs.Common.{None, Option, Some, ap, arith, filter, inl, inr, length, map, min}
 use Rattle.std.proofs.Common.{refl, slice_get, subst, sym, nat_le, nat_lt, ◌&&◌, le-ltb, lt-ltb}
@@ -11,26 +11,28 @@ use Rattle.aeth_server.specs.FinishTimes.{arrivals_before}
 use Rattle.aeth_server.specs.PrivateServer.{PrivateServer, arrived, sent}
 use Rattle.aeth_trace.specs.{declared.words.WordRow.WordRow, Channels.is_channel}
 use Rattle.aeth_components.proofs.TurnLemmas.{refilled-closed, refilled-none, refilled-open}
-use Rattle.aeth_components.specs.{Changes.switched, Components.ComponentsState, Components.Cycle}
-use Rattle.aeth_components.specs.{Frames.frame_of, Lanes.is_open, Phases.left_of, Phases.refilled}
+use Rattle.aeth_components.specs.{Changes.switched, Components.ComponentsState}
+use Rattle.aeth_components.specs.{Components.ComponentsCycle, Wirings.wiring_of}
+use Rattle.aeth_components.specs.{ChannelStates.is_open, Phases.left_of, Phases.refilled}
 use Rattle.aeth_components.specs.{View.queue_of as queue_in_parts, declared.event.Event.Event}
-use Rattle.aeth_components.specs.{declared.lane.Lane.Lane}
+use Rattle.aeth_components.specs.{declared.channel_state.ChannelState.ChannelState}
 use Rattle.aeth_router.specs.declared.part.Part.{Part}
-use Rattle.aeth_refinement.specs.{Accepted.IsAccepted, Fabric.Fabric, Fabric.IsGoing, Fabric.Owns}
-use Rattle.aeth_refinement.specs.{Fabric.server_at, Switches.Switched}
-use Rattle.aeth_refinement.proofs.{Owning.waiting-length, Unique.paths-of}
+use Rattle.aeth_invariant.specs.WellRouted.{AreWellRouted}
+use Rattle.aeth_invariant.specs.RoutedSessions.{RoutedSessions, IsOpenSession, Owns, server_at}
+use Rattle.aeth_invariant.specs.Switches.{Switched}
+use Rattle.aeth_invariant.proofs.{Owning.waiting-length, Unique.paths-of}
 use Rattle.aeth_accepted.specs.Inputs.{Inputs, run_of}
-use Rattle.aeth_fabric.specs.Fabric.{fabric_of}
+use Rattle.aeth_routed_sessions.specs.RoutedSessions.{routed_sessions_of}
 use Rattle.aeth_stimuli.specs.{Sessions.channel_of, Stimuli.stimuli_of, Events.events_in}
-use Rattle.aeth_invariant.specs.{Events.AreEvents, Following.Follows, Framed.IsFramed}
-use Rattle.aeth_invariant.specs.{Served.handed_after, View.net_of}
-use Rattle.aeth_running.proofs.KeptLanes.{cycle-behind}
+use Rattle.aeth_refinement.specs.{Events.AreEvents, Following.Follows, WiredFor.IsWiredFor}
+use Rattle.aeth_refinement.specs.{Served.enqueued_after, View.net_of}
+use Rattle.aeth_running.proofs.KeptChannelStates.{cycle-behind}
 use Rattle.aeth_running.proofs.NetworkWires.{exact}
 use Rattle.aeth_running.proofs.Played.{played-next, played-stimuli, played-time}
-use Rattle.aeth_running.proofs.SettledQueues.{handed-full, handed_on-full, sent-same}
+use Rattle.aeth_running.proofs.SettledQueues.{enqueued-full, enqueued_on-full, sent-same}
 use Rattle.aeth_running.specs.{Network.NetworkState, Network.first_network, Network.played}
 use Rattle.aeth_running.specs.{Network.ready_in, Network.state_behind, Network.stepped}
-use Rattle.aeth_running.specs.{Running.IsRunning, Running.IsServing, Routing.Routing}
+use Rattle.aeth_running.specs.{Running.HoldsBefore, Running.IsServing, Routing.Routing}
 use Rattle.aeth_report.specs.SessionList.{listed_at}
 
 -- Where no word is offered in a cycle, none arrives in it.
@@ -59,25 +61,26 @@ pub stepped-components : (all : NetworkState)
 unfolding stepped
 stepped-components all = refl
 
-module _ (inputs : Inputs) (routing : Routing) (ok : IsAccepted (fabric_of inputs))
-    (follows-on : (fabric : Fabric) → IsAccepted fabric → (channel : ℕ → ℕ)
-    (events : List Event) (t : ℕ) (handed : ℕ → ℕ) (old new : ComponentsState)
-    → Follows fabric channel t t handed old → AreEvents fabric (t + 1) events
-    → Cycle events t old new → Follows fabric channel t (t + 1)
-    (handed_after fabric (net_of handed (switched events old.parts) old.wires) t) new)
-    (switches : (fabric : Fabric) (e : ℕ) (events : List Event) (parts : List Part)
-    (handed : ℕ → ℕ) (wires : List (Option Flit)) (count : ℕ)
-    → IsFramed fabric (map frame_of parts) count → AreEvents fabric e events
-    → Switched fabric e (net_of handed parts wires) (net_of handed (switched events parts) wires))
+module _ (inputs : Inputs) (routing : Routing) (ok : AreWellRouted (routed_sessions_of inputs))
+    (follows-on : (sessions : RoutedSessions) → AreWellRouted sessions → (channel : ℕ → ℕ)
+    (events : List Event) (t : ℕ) (enqueued : ℕ → ℕ) (old new : ComponentsState)
+    → Follows sessions channel t t enqueued old → AreEvents sessions (t + 1) events
+    → ComponentsCycle events t old new → Follows sessions channel t (t + 1)
+    (enqueued_after sessions (net_of enqueued (switched events old.parts) old.wires) t) new)
+    (switches : (sessions : RoutedSessions) (e : ℕ) (events : List Event) (parts : List Part)
+    (enqueued : ℕ → ℕ) (wires : List (Option Flit)) (count : ℕ)
+    → IsWiredFor sessions (map wiring_of parts) count → AreEvents sessions e events
+    → Switched sessions e (net_of enqueued parts wires)
+    (net_of enqueued (switched events parts) wires))
     (events-are : (t : ℕ) → t < inputs.cycles
-    → AreEvents (fabric_of inputs) (t + 1) (events_in (stimuli_of inputs) t))
+    → AreEvents (routed_sessions_of inputs) (t + 1) (events_in (stimuli_of inputs) t))
     (running : (t : ℕ) → t ≤ inputs.cycles
-    → IsRunning inputs t (played t (first_network inputs routing)).components)
+    → HoldsBefore inputs t (played t (first_network inputs routing)).components)
     (serving : (t : ℕ) → t < inputs.cycles
     → IsServing inputs t (played t (first_network inputs routing)).components
     (ready_in (played t (first_network inputs routing)))) where
-  abbrev fabric : Fabric
-  fabric = fabric_of inputs
+  abbrev sessions : RoutedSessions
+  sessions = routed_sessions_of inputs
 
   abbrev ready : ℕ → ComponentsState
   ready t = ready_in (played t (first_network inputs routing))
@@ -92,92 +95,96 @@ module _ (inputs : Inputs) (routing : Routing) (ok : IsAccepted (fabric_of input
       ∙ stepped-components all
       ∙ (λ i. state_behind (events_in (stimuli i) (time i)) (time i) (ready t))
 
-  -- A session that is in use in a cycle and went before it has been handed so many words.
-  handed-before : (t c : ℕ) (known : c < fabric.count) (early : t + 1 < inputs.cycles)
-      (going : IsGoing fabric c (t + 1)) → (server_at fabric c).go ≤ t
-      → (serving (t + 1) early).handed c
-      ≡ min (sent (server_at fabric c) t + waiting_words) (arrived (server_at fabric c) (suc t))
-  handed-before t c known early going gone =
+  -- A session that is in use in a cycle and went before it has enqueued so many words.
+  enqueued-before : (t c : ℕ) (known : c < sessions.count) (early : t + 1 < inputs.cycles)
+      (going : IsOpenSession sessions c (t + 1)) → (server_at sessions c).go ≤ t
+      → (serving (t + 1) early).enqueued c
+      ≡ min (sent (server_at sessions c) t + waiting_words) (arrived (server_at sessions c) (suc t))
+  enqueued-before t c known early going gone =
       let goes = going.goes in
       let unfinished = going.unfinished in
-      let earlier : IsGoing fabric c t = record { goes = gone; unfinished = omega arith } in
+      let earlier : IsOpenSession sessions c t = record { goes = gone; unfinished = omega arith } in
       let before = serving t (omega arith) in
       let serves = serving (t + 1) early in
       let old = ready t in
       let events = events_in (stimuli_of inputs) t in
       let new = state_behind events t old in
       let are = events-are t (omega arith) in
-      let tables = net_of before.handed (switched events old.parts) old.wires in
-      let follows = follows-on fabric ok (channel_of inputs) events t before.handed old new
+      let tables = net_of before.enqueued (switched events old.parts) old.wires in
+      let follows = follows-on sessions ok (channel_of inputs) events t before.enqueued old new
       before.follows are (cycle-behind events t old) in
       let next : t + 1 ≡ suc t = omega arith in
-      let change : Switched fabric (suc t) (net_of before.handed old.parts old.wires) tables =
-      subst (λ n. Switched fabric n (net_of before.handed old.parts old.wires) tables) next
-      (switches fabric (t + 1) events old.parts before.handed old.wires (length old.wires)
-      before.follows.framed are) in
-      let full = handed-full fabric ok t c known earlier (net_of before.handed old.parts old.wires) tables
+      let change : Switched sessions (suc t) (net_of before.enqueued old.parts old.wires) tables =
+      subst (λ n. Switched sessions n (net_of before.enqueued old.parts old.wires) tables) next
+      (switches sessions (t + 1) events old.parts before.enqueued old.wires (length old.wires)
+      before.follows.wired_for are) in
+      let full = enqueued-full sessions ok t c known earlier
+      (net_of before.enqueued old.parts old.wires) tables
       before.follows.stands change in
       let was = follows.served.own c known earlier in
-      let there = ap (λ (all : ComponentsState). slice_get all.lanes (channel_of inputs c))
+      let there = ap (λ (all : ComponentsState). slice_get all.channel_states (channel_of inputs c))
       (components-next t) ∙ was.at in
-      let stays = serves.prepares.stays c was.lane known going (omega arith) there in
+      let stays = serves.prepares.stays c was.channel_state known going (omega arith) there in
       let has = serves.follows.served.own c known going in
-      let same = same_Some has.lane _ (sym has.at ∙ stays) in
-      sym has.served.counted.handed_is ∙ ap (λ (lane : Lane). lane.handed) same
-      ∙ was.served.counted.handed_is ∙ full
+      let same = same_Some has.channel_state _ (sym has.at ∙ stays) in
+      sym has.served.counted.enqueued_is
+      ∙ ap (λ (channel_state : ChannelState). channel_state.enqueued) same
+      ∙ was.served.counted.enqueued_is ∙ full
 
-  handed-at : (t u c : ℕ) (known : c < fabric.count) (early : t < inputs.cycles)
-      (going : IsGoing fabric c t) → u + 1 ≡ t → (server_at fabric c).go ≤ u
-      → (serving t early).handed c
-      ≡ min (sent (server_at fabric c) u + waiting_words) (arrived (server_at fabric c) (suc u))
-  handed-at t u c known early going next gone =
-      subst (λ (n : ℕ). (soon : n < inputs.cycles) (going : IsGoing fabric c n)
-      → (serving n soon).handed c
-      ≡ min (sent (server_at fabric c) u + waiting_words) (arrived (server_at fabric c) (suc u))) next
-      (λ soon using. handed-before u c known soon using gone) early going
+  enqueued-at : (t u c : ℕ) (known : c < sessions.count) (early : t < inputs.cycles)
+      (going : IsOpenSession sessions c t) → u + 1 ≡ t → (server_at sessions c).go ≤ u
+      → (serving t early).enqueued c
+      ≡ min (sent (server_at sessions c) u + waiting_words) (arrived (server_at sessions c) (suc u))
+  enqueued-at t u c known early going next gone =
+      subst (λ (n : ℕ). (soon : n < inputs.cycles) (going : IsOpenSession sessions c n)
+      → (serving n soon).enqueued c
+      ≡ min (sent (server_at sessions c) u + waiting_words)
+      (arrived (server_at sessions c) (suc u))) next
+      (λ soon using. enqueued-before u c known soon using gone) early going
 
   module _ (t : ℕ) (early : t < inputs.cycles)
       (empty : (l : ℕ) → flit_on (played t (first_network inputs routing)).components.wires l ≡ None)
       (unoffered : (row : WordRow) → Contains inputs.words row → row.cycle ≡ t → ⊥) where
     -- No word arrives in the cycle.
-    none-arrives : (c : ℕ) → arrived (server_at fabric c) (t + 1) ≡ arrived (server_at fabric c) t
+    none-arrives : (c : ℕ)
+        → arrived (server_at sessions c) (t + 1) ≡ arrived (server_at sessions c) t
     none-arrives c =
         let channel = (listed_at (run_of inputs) c).channel in
         let own = λ (row : WordRow). is_channel channel row.channel in
-        same-arrived (server_at fabric c) t (λ a has now.
+        same-arrived (server_at sessions c) t (λ a has now.
         let (row, is, listed) = map-Contains (λ (row : WordRow). row.cycle)
         (filter own inputs.words) a has in
         unoffered row (filter-Contains own inputs.words row listed).0 (is ∙ now))
 
     -- No word was sent in the cycle before.
-    none-sent : (u c : ℕ) → c < fabric.count → IsGoing fabric c u → u + 1 ≡ t
-        → sent (server_at fabric c) t ≡ sent (server_at fabric c) u
+    none-sent : (u c : ℕ) → c < sessions.count → IsOpenSession sessions c u → u + 1 ≡ t
+        → sent (server_at sessions c) t ≡ sent (server_at sessions c) u
     none-sent u c known going next =
-        ap (sent (server_at fabric c)) (sym next)
-        ∙ sent-same fabric ok u c known going
+        ap (sent (server_at sessions c)) (sym next)
+        ∙ sent-same sessions ok u c known going
         (flit_on (played (u + 1) (first_network inputs routing)).components.wires)
         (exact inputs routing running u (omega arith))
         (λ l. ap (λ n. flit_on (played n (first_network inputs routing)).components.wires l) next ∙ empty l)
 
-    -- A session in use has handed all on that it accepted, or eight of its words wait.
-    settled : (c : ℕ) (known : c < fabric.count) (going : IsGoing fabric c t)
-        → (arrived (server_at fabric c) (t + 1) ≤ (serving t early).handed c)
-        ⊎ (length (queue_in_parts (ready t).parts (fabric.passage c).ni
-        (fabric.passage c).queue).waiting ≡ waiting_words)
+    -- A session in use has enqueued all that it accepted, or eight of its words wait.
+    settled : (c : ℕ) (known : c < sessions.count) (going : IsOpenSession sessions c t)
+        → (arrived (server_at sessions c) (t + 1) ≤ (serving t early).enqueued c)
+        ⊎ (length (queue_in_parts (ready t).parts (sessions.routed_session c).ni
+        (sessions.routed_session c).queue).waiting ≡ waiting_words)
     settled c known going =
-        let server = server_at fabric c in
+        let server = server_at sessions c in
         let goes = going.goes in
         let unfinished = going.unfinished in
         let arrives = none-arrives c in
         elim (cases_lt server.go t) [
           | inr late ↦
-              let none = (idle-before server (paths-of fabric ok c known) t late).arrived in
+              let none = (idle-before server (paths-of sessions ok c known) t late).arrived in
               inl (omega (arith, none, arrives))
           | inl before ↦
               let u = t - 1 in
               let next : u + 1 ≡ t = omega arith in
-              let handed = handed-at t u c known early going next (omega arith) in
-              let earlier : IsGoing fabric c u =
+              let enqueued = enqueued-at t u c known early going next (omega arith) in
+              let earlier : IsOpenSession sessions c u =
               record { goes = omega arith; unfinished = omega arith } in
               let sends = none-sent u c known earlier next in
               let now : suc u ≡ t = omega arith in
@@ -185,41 +192,49 @@ module _ (inputs : Inputs) (routing : Routing) (ok : IsAccepted (fabric_of input
               let order = ok.ordered c known in
               let since = order.set_since in
               let set = order.set_go in
-              let own : Owns fabric c t = record { since = omega arith; finish = omega arith } in
+              let own : Owns sessions c t = record { since = omega arith; finish = omega arith } in
               let serves = serving t early in
-              let waits = waiting-length fabric ok t t
-              (net_of serves.handed (ready t).parts (ready t).wires) serves.follows.stands c known own in
+              let waits = waiting-length sessions ok t t
+              (net_of serves.enqueued (ready t).parts (ready t).wires) serves.follows.stands c known
+              own in
               elim (cases_lt (sent server u + waiting_words) (arrived server t)) [
-                | inl more ↦ inr (omega (arith, handed, sends, arrived_is, waits, more))
-                | inr fewer ↦ inl (omega (arith, handed, arrives, arrived_is, fewer))
+                | inl more ↦ inr (omega (arith, enqueued, sends, arrived_is, waits, more))
+                | inr fewer ↦ inl (omega (arith, enqueued, arrives, arrived_is, fewer))
               ]
         ]
 
     -- So refilling leaves its channel.
-    pub hands-rest : (number : ℕ) (lane : Lane) → slice_get (ready t).lanes number ≡ Some lane
-        → refilled (ready t).words t (ready t).parts lane ≡ ((ready t).parts, lane)
-    hands-rest number lane at =
+    pub enqueues-rest : (number : ℕ) (channel_state : ChannelState)
+        → slice_get (ready t).channel_states number ≡ Some channel_state
+        → refilled (ready t).words t (ready t).parts channel_state
+        ≡ ((ready t).parts, channel_state)
+    enqueues-rest number channel_state at =
         let parts = (ready t).parts in
         let words = (ready t).words in
         let serves = serving t early in
-        elim (cases_Bool (is_open lane t)) [
-          | inr closed ↦ refilled-closed words t parts lane closed
+        elim (cases_Bool (is_open channel_state t)) [
+          | inr closed ↦ refilled-closed words t parts channel_state closed
           | inl opened ↦
-              let used = serves.follows.served.only number lane at opened in
+              let used = serves.follows.served.only number channel_state at opened in
               let c = used.session in
               let has = serves.follows.served.own c used.known used.going in
-              let same : has.lane ≡ lane = same_Some has.lane lane
-              (sym (sym (ap (slice_get (ready t).lanes) used.place) ∙ has.at) ∙ at) in
-              let accepted = sym (ap (λ (one : Lane). one.accepted) same) ∙ has.served.fed.accepted in
-              let handed = sym (ap (λ (one : Lane). one.handed) same) ∙ has.served.counted.handed_is in
-              let ni = sym (ap (λ (one : Lane). one.sender.ni.0) same) ∙ has.served.of.sender.ni in
-              let queue = sym (ap (λ (one : Lane). one.sender.queue) same)
+              let same : has.channel_state ≡ channel_state =
+              same_Some has.channel_state channel_state
+              (sym (sym (ap (slice_get (ready t).channel_states) used.place) ∙ has.at) ∙ at) in
+              let accepted = sym (ap (λ (one : ChannelState). one.accepted) same)
+              ∙ has.served.fed.accepted in
+              let enqueued = sym (ap (λ (one : ChannelState). one.enqueued) same)
+              ∙ has.served.counted.enqueued_is in
+              let ni = sym (ap (λ (one : ChannelState). one.sender.ni.0) same)
+              ∙ has.served.of.sender.ni in
+              let queue = sym (ap (λ (one : ChannelState). one.sender.queue) same)
               ∙ has.served.of.sender.queue in
               elim (settled c used.known used.going) [
-                | inl all ↦ refilled-none words t parts lane (omega (arith, all, accepted, handed))
+                | inl all ↦ refilled-none words t parts channel_state
+                    (omega (arith, all, accepted, enqueued))
                 | inr full ↦
-                    refilled-open words t parts lane opened
-                    ∙ handed_on-full (left_of words lane) parts lane
+                    refilled-open words t parts channel_state opened
+                    ∙ enqueued_on-full (left_of words channel_state) parts channel_state
                     (ap (λ (q : QueueState). length q.waiting)
                     (λ i. queue_in_parts parts (ni i) (queue i)) ∙ full)
               ]

@@ -13,14 +13,14 @@ use Rattle.aeth_router.specs.Stage.{StageState}
 use Rattle.aeth_router.specs.TableRouter.{TableRouterState}
 use Rattle.aeth_router.specs.declared.part.Part.{Part}
 use Rattle.aeth_router.specs.declared.part.Part.TheVariants.{Interface, Router, Stage, TableRouter}
-use Rattle.aeth_components.specs.{Components.wires_driven, Counting.brings, Frames.IsWired}
-use Rattle.aeth_components.specs.{Frames.frame_of, Queues.brought_by, Queues.words_for}
-use Rattle.aeth_components.specs.{declared.lane.Lane.Lane}
-use Rattle.aeth_invariant.specs.View.{HaveLatched}
+use Rattle.aeth_components.specs.{Components.wires_driven, Counting.brings, Wirings.IsWired}
+use Rattle.aeth_components.specs.{Wirings.wiring_of, Queues.brought_by, Queues.words_for}
+use Rattle.aeth_components.specs.{declared.channel_state.ChannelState.ChannelState}
+use Rattle.aeth_refinement.specs.View.{HaveLatched}
 use Rattle.aeth_running.proofs.MuteParts.{held-none, places, sent-none, table-none, table-places}
 
 module _ (parts : List Part) (wires : List (Option Flit)) (cycle : ℕ)
-    (wired : IsWired (map frame_of parts) (length wires)) (latched : HaveLatched parts wires)
+    (wired : IsWired (map wiring_of parts) (length wires)) (latched : HaveLatched parts wires)
     (empty : (l : ℕ) → flit_on wires l ≡ None)
     (silent : (l : ℕ) → flit_on (wires_driven parts (length wires) cycle) l ≡ None)
     (last : (i : ℕ) (ni : InterfaceState) → slice_get parts i ≡ Some (Interface ni)
@@ -66,19 +66,20 @@ module _ (parts : List Part) (wires : List (Option Flit)) (cycle : ℕ)
       (latched.stages i stage at ∙ empty stage.input.0, empty stage.input.0)).1
 
   -- And no interface tells of words that came.
-  told-none : (queue i : ℕ) (part : Part) → slice_get parts i ≡ Some part → brought_by queue part ≡ 0
-  told-none queue i (Interface ni) at = ap (words_for queue) (last i ni at)
-  told-none queue i (Router router) at = refl
-  told-none queue i (TableRouter router) at = refl
-  told-none queue i (Stage stage) at = refl
+  logged-none : (queue i : ℕ) (part : Part) → slice_get parts i ≡ Some part
+      → brought_by queue part ≡ 0
+  logged-none queue i (Interface ni) at = ap (words_for queue) (last i ni at)
+  logged-none queue i (Router router) at = refl
+  logged-none queue i (TableRouter router) at = refl
+  logged-none queue i (Stage stage) at = refl
 
   found-none : (queue i : ℕ) (found : Option Part) → slice_get parts i ≡ found
       → option_map_or (brought_by queue) found 0 ≡ 0
   found-none queue i None at = refl
-  found-none queue i (Some part) at = told-none queue i part at
+  found-none queue i (Some part) at = logged-none queue i part at
 
-  pub lands-none : (lane : Lane) → brings parts lane ≡ 0
-  lands-none lane =
-      let end = lane.receiver in
+  pub lands-none : (channel_state : ChannelState) → brings parts channel_state ≡ 0
+  lands-none channel_state =
+      let end = channel_state.receiver in
       let none = found-none end.queue end.ni.0 (slice_get parts end.ni.0) refl in
       omega (arith, none)

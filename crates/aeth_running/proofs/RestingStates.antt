@@ -13,7 +13,7 @@ use Rattle.aeth_components.specs.Components.{wires_driven}
 use Rattle.aeth_components.specs.Counting.{brings, counted, flits_counted, noted, with_flit}
 use Rattle.aeth_components.specs.Phases.{Moment, in_turn, pulled, refilled, turned, turned_at}
 use Rattle.aeth_components.specs.Phases.{turned_by}
-use Rattle.aeth_components.specs.declared.lane.Lane.{Lane}
+use Rattle.aeth_components.specs.declared.channel_state.ChannelState.{ChannelState}
 use Rattle.aeth_running.specs.Network.{state_behind}
 
 -- Where a change leaves each item, it leaves the list.
@@ -25,27 +25,31 @@ map-rests {X} change (x ∷ xs) rests =
     ∙ ap (λ (others : List X). x ∷ others) (map-rests change xs (λ i y at. rests (suc i) y at))
 
 -- Where a turn leaves each channel and all components, all turns do.
-module _ (turn : List Part → Lane → List Part × Lane) (moment : Moment)
-    (rests : (number : ℕ) (lane : Lane) → slice_get moment.lanes number ≡ Some lane
-    → turn moment.parts lane ≡ (moment.parts, lane)) where
-  turned-rests : (number : ℕ) (found : Option Lane) → slice_get moment.lanes number ≡ found
+module _ (turn : List Part → ChannelState → List Part × ChannelState) (moment : Moment)
+    (rests : (number : ℕ) (channel_state : ChannelState)
+    → slice_get moment.channel_states number ≡ Some channel_state
+    → turn moment.parts channel_state ≡ (moment.parts, channel_state)) where
+  turned-rests : (number : ℕ) (found : Option ChannelState)
+      → slice_get moment.channel_states number ≡ found
       → turned_at turn moment number found ≡ moment
   turned-rests number None at = refl
-  turned-rests number (Some lane) at =
-      ap (turned_by moment number) (rests number lane at)
-      ∙ ap (λ (lanes : List Lane). record { parts = moment.parts; lanes = lanes })
-      (ap (set moment.lanes number) (sym (get_or_from_slice_get moment.lanes number lane lane at))
-      ∙ set-get_or moment.lanes number lane)
+  turned-rests number (Some channel_state) at =
+      ap (turned_by moment number) (rests number channel_state at)
+      ∙ ap (λ (channel_states : List ChannelState).
+      record { parts = moment.parts; channel_states = channel_states })
+      (ap (set moment.channel_states number)
+      (sym (get_or_from_slice_get moment.channel_states number channel_state channel_state at))
+      ∙ set-get_or moment.channel_states number channel_state)
 
   turns-rest : (numbers : List ℕ) → fold (turned turn) moment numbers ≡ moment
   turns-rest [] = refl
   turns-rest (number ∷ numbers) =
       ap (λ (one : Moment). fold (turned turn) one numbers)
-      (turned-rests number (slice_get moment.lanes number) refl)
+      (turned-rests number (slice_get moment.channel_states number) refl)
       ∙ turns-rest numbers
 
   pub in_turn-rests : in_turn turn moment ≡ moment
-  in_turn-rests = turns-rest (range_with_len 0 (length moment.lanes))
+  in_turn-rests = turns-rest (range_with_len 0 (length moment.channel_states))
 
 -- Empty wires count no flit.
 flits_counted-rests : (wires : List (Option Flit)) (counts : List ℕ)
@@ -65,55 +69,60 @@ both-empty one other size first second =
     ∙ sym (all-empty other (λ l within. second l))
 
 module _ (all : ComponentsState) (cycle : ℕ) (empty : (l : ℕ) → flit_on all.wires l ≡ None)
-    (hands : (number : ℕ) (lane : Lane) → slice_get all.lanes number ≡ Some lane
-    → refilled all.words cycle all.parts lane ≡ (all.parts, lane))
-    (takes : (number : ℕ) (lane : Lane) → slice_get all.lanes number ≡ Some lane
-    → pulled cycle all.parts lane ≡ (all.parts, lane))
+    (enqueues : (number : ℕ) (channel_state : ChannelState)
+    → slice_get all.channel_states number ≡ Some channel_state
+    → refilled all.words cycle all.parts channel_state ≡ (all.parts, channel_state))
+    (takes : (number : ℕ) (channel_state : ChannelState)
+    → slice_get all.channel_states number ≡ Some channel_state
+    → pulled cycle all.parts channel_state ≡ (all.parts, channel_state))
     (drives : (i : ℕ) (part : Part) → slice_get all.parts i ≡ Some part → after_of part cycle ≡ part)
     (sends : wires_driven all.parts (length all.wires) cycle ≡ all.wires)
     (latches : (i : ℕ) (part : Part) → slice_get all.parts i ≡ Some part
     → absorb_of part all.wires ≡ part)
-    (lands : (lane : Lane) → brings all.parts lane ≡ 0) where
+    (lands : (channel_state : ChannelState) → brings all.parts channel_state ≡ 0) where
   refilled-all : ready_of all.words [] cycle (moment_of all) ≡ moment_of all
-  refilled-all = in_turn-rests (refilled all.words cycle) (moment_of all) hands
+  refilled-all = in_turn-rests (refilled all.words cycle) (moment_of all) enqueues
 
   latched-all : latched_of all.words [] cycle all.wires (moment_of all) ≡ moment_of all
   latched-all =
       ap (λ (one : Moment). latched_from all.wires (in_turn (pulled cycle) (driven_from cycle one)))
       refilled-all
       ∙ ap (λ (parts : List Part). latched_from all.wires
-      (in_turn (pulled cycle) (record { parts = parts; lanes = all.lanes })))
+      (in_turn (pulled cycle) (record { parts = parts; channel_states = all.channel_states })))
       (map-rests (λ part. after_of part cycle) all.parts drives)
       ∙ ap (latched_from all.wires) (in_turn-rests (pulled cycle) (moment_of all) takes)
-      ∙ ap (λ (parts : List Part). record { parts = parts; lanes = all.lanes })
+      ∙ ap (λ (parts : List Part). record { parts = parts; channel_states = all.channel_states })
       (map-rests (λ part. absorb_of part all.wires) all.parts latches)
 
-  lanes-rest : map (counted cycle all.parts) all.lanes ≡ all.lanes
-  lanes-rest = map-rests (counted cycle all.parts) all.lanes
-      (λ i lane at. counted-still cycle all.parts lane (lands lane))
+  channel_states-rest : map (counted cycle all.parts) all.channel_states ≡ all.channel_states
+  channel_states-rest = map-rests (counted cycle all.parts) all.channel_states
+      (λ i channel_state at. counted-still cycle all.parts channel_state (lands channel_state))
 
-  landings-rest : (lanes : List Lane)
-      → fold (noted cycle all.parts) all.landings lanes ≡ all.landings
+  landings-rest : (channel_states : List ChannelState)
+      → fold (noted cycle all.parts) all.landings channel_states ≡ all.landings
   landings-rest [] = refl
-  landings-rest (lane ∷ lanes) =
-      ap (λ (landings : List ℕ). fold (noted cycle all.parts) landings lanes)
-      (noted-still cycle all.parts all.landings lane (lands lane))
-      ∙ landings-rest lanes
+  landings-rest (channel_state ∷ channel_states) =
+      ap (λ (landings : List ℕ). fold (noted cycle all.parts) landings channel_states)
+      (noted-still cycle all.parts all.landings channel_state (lands channel_state))
+      ∙ landings-rest channel_states
 
   -- What is counted behind wires and a moment.
-  abbrev told_by : List (Option Flit) → Moment → ComponentsState
-  told_by wires latched =
-      components_of latched.parts wires (map (counted cycle latched.parts) latched.lanes) all.words
-      (fold (noted cycle latched.parts) all.landings latched.lanes) (flits_counted wires all.flits)
+  abbrev logged_by : List (Option Flit) → Moment → ComponentsState
+  logged_by wires latched =
+      components_of latched.parts wires (map (counted cycle latched.parts) latched.channel_states)
+      all.words
+      (fold (noted cycle latched.parts) all.landings latched.channel_states)
+      (flits_counted wires all.flits)
 
   -- So the cycle leaves them.
   pub state-rests : state_behind [] cycle all ≡ all
   state-rests =
       ap (λ (one : Moment).
       let wires = wires_driven one.parts (length all.wires) cycle in
-      told_by wires (latched_of all.words [] cycle wires (moment_of all))) refilled-all
+      logged_by wires (latched_of all.words [] cycle wires (moment_of all))) refilled-all
       ∙ ap (λ (wires : List (Option Flit)).
-      told_by wires (latched_of all.words [] cycle wires (moment_of all))) sends
-      ∙ ap (told_by all.wires) latched-all
-      ∙ (λ i. components_of all.parts all.wires (lanes-rest i) all.words (landings-rest all.lanes i)
+      logged_by wires (latched_of all.words [] cycle wires (moment_of all))) sends
+      ∙ ap (logged_by all.wires) latched-all
+      ∙ (λ i. components_of all.parts all.wires (channel_states-rest i) all.words
+      (landings-rest all.channel_states i)
       (flits_counted-rests all.wires all.flits empty i))

@@ -1,4 +1,4 @@
--- Routers whose tables have the rows in force are routed as a fabric asks.
+-- Routers whose tables have the rows in force are routed as routed sessions ask.
 use Rattle.std.proofs.Common.{◌≡◌, ◌<◌, ◌∙◌, ◌+◌, ◌*◌, ◌%◌, ℕ, All, true, List, [], ◌∷◌, None}
 use Rattle.std.proofs.Common.{Option, Some, ap, arith, filter, fold, get_or, inl, inr, length, map}
 use Rattle.std.proofs.Common.{refl, slice_get, sym, ◌==◌, ◌&&◌, if◌then◌else◌, nat_lt}
@@ -24,11 +24,12 @@ use Rattle.aeth_router.specs.TableRouter.{place_from}
 use Rattle.aeth_router.specs.declared.{part.Part.Part, router_row.RouterRow.RouterRow}
 use Rattle.aeth_clocked.specs.declared.flit.Flit.{Flit}
 use Rattle.aeth_report.specs.Routes.{port_of}
-use Rattle.aeth_refinement.specs.Fabric.{AtRouter}
+use Rattle.aeth_invariant.specs.RoutedSessions.{AtRouter}
 use Rattle.aeth_accepted.specs.Inputs.{Inputs}
-use Rattle.aeth_fabric.specs.{Fabric.fabric_of, Wiring.node_end, Wiring.start_of}
-use Rattle.aeth_fabric.proofs.{WiredLemmas.port_at, WireEnds.first-starts}
-use Rattle.aeth_invariant.specs.Routed.{AreRoutedBy, IsRoutedBy, table_from}
+use Rattle.aeth_routed_sessions.specs.RoutedSessions.{routed_sessions_of}
+use Rattle.aeth_routed_sessions.specs.Wiring.{node_end, start_of}
+use Rattle.aeth_routed_sessions.proofs.{WiredLemmas.port_at, WireEnds.first-starts}
+use Rattle.aeth_refinement.specs.Routed.{AreRoutedBy, IsRoutedBy, table_from}
 use Rattle.aeth_running.proofs.RouterTables.{HaveTables, IsTableOf}
 use Rattle.aeth_running.specs.Routing.{AreRowsOn, Entering, IsRoutingFor, Routing, first_rows}
 use Rattle.aeth_running.specs.Routing.{kind_of, later_rows, rows_at}
@@ -171,7 +172,7 @@ module _ (inputs : Inputs) (routing : Routing) (routes : IsRoutingFor inputs rou
   -- A router with the rows in force.
   table-routed : (router : TableRouterState)
       → IsTableOf inputs.chip (kind_of routing) (rows_at routing t) router
-      → IsRoutedBy (fabric_of inputs) t router
+      → IsRoutedBy (routed_sessions_of inputs) t router
   table-routed router table =
       let tables = routes table.kind_is in
       let rows = rows_at routing t in
@@ -197,5 +198,5 @@ module _ (inputs : Inputs) (routing : Routing) (routes : IsRoutingFor inputs rou
 
   pub tables-routed : (parts : List Part)
       → HaveTables inputs.chip (kind_of routing) (rows_at routing t) parts
-      → AreRoutedBy (fabric_of inputs) t parts
+      → AreRoutedBy (routed_sessions_of inputs) t parts
   tables-routed parts tables i router at = table-routed router (tables i router at)

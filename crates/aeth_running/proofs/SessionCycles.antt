@@ -1,4 +1,5 @@
--- The sessions of a channel, one after the other, and their numbers in the fabric of a run.
+-- The sessions of a channel, one after the other, and their numbers in the routed sessions of a
+-- run.
 use Rattle.std.proofs.Common.{◌≡◌, ◌≤◌, ◌<◌, ◌∙◌, ℕ, ◌+◌, List, Option, Some, None, length, max}
 use Rattle.std.proofs.Common.{slice_get, refl, sym, ap, inl, inr, arith, option_map, slice_index_or}
 use Rattle.std.proofs.Common.{unwrap_or}
@@ -18,9 +19,9 @@ use Rattle.aeth_report.proofs.{ClosingLemmas.lands_by_finish, OneFlit.session-pa
 use Rattle.aeth_report.proofs.{SessionMeetings.mapped_at, SessionOrder.sessions_after}
 use Rattle.aeth_report.proofs.{StaysAlone.at-Contains, SessionNumbers.listed-among}
 use Rattle.aeth_report.proofs.{SessionNumbers.numbered}
-use Rattle.aeth_refinement.specs.Fabric.{server_at}
+use Rattle.aeth_invariant.specs.RoutedSessions.{server_at}
 use Rattle.aeth_accepted.specs.Inputs.{Inputs, run_of}
-use Rattle.aeth_fabric.specs.Fabric.{ended, fabric_of, stays_in}
+use Rattle.aeth_routed_sessions.specs.RoutedSessions.{ended, routed_sessions_of, stays_in}
 use Rattle.aeth_stimuli.specs.Sessions.{IsBefore, channel_of}
 use Rattle.aeth_running.proofs.ChannelsByNumber.{same-connection}
 
@@ -110,12 +111,12 @@ module _ (inputs : Inputs) (sound : IsSound (run_of inputs)) where
           omega arith
 
   module _ (channel : Channel) (known : channel.conn.0 < length inputs.app.connections) where
-    -- A session of the channel by its number in the fabric.
+    -- A session of the channel by its number in the routed sessions.
     pub record HasNumber (session : Session) : Type 0 where
       pub number : ℕ
-      pub within : number < (fabric_of inputs).count
+      pub within : number < (routed_sessions_of inputs).count
       pub channel_is : channel_of inputs number ≡ channel_number channel
-      pub server_is : server_at (fabric_of inputs) number
+      pub server_is : server_at (routed_sessions_of inputs) number
           ≡ server_of (run_of inputs) channel (ended inputs.cycles session)
 
     pub has-number : (i : ℕ) (session : Session)
@@ -151,14 +152,14 @@ module _ (inputs : Inputs) (sound : IsSound (run_of inputs)) where
         let same : max inputs.cycles session.go ≡ inputs.cycles = omega arith in
         ap server same
 
-    -- Each session of the fabric on the channel is one of its sessions.
+    -- Each routed session on the channel is one of its sessions.
     pub record IsAmong (d : ℕ) : Type 0 where
       pub place : ℕ
       pub session : Session
       pub at : slice_get (sessions_in (run_of inputs) channel.conn.0) place ≡ Some session
-      pub go : (server_at (fabric_of inputs) d).go ≡ session.go
+      pub go : (server_at (routed_sessions_of inputs) d).go ≡ session.go
 
-    pub is-among : (d : ℕ) → d < (fabric_of inputs).count
+    pub is-among : (d : ℕ) → d < (routed_sessions_of inputs).count
         → channel_of inputs d ≡ channel_number channel → IsAmong d
     is-among d within same =
         let run = run_of inputs in

@@ -1,5 +1,5 @@
--- Source queues behind a cycle in which no flit is sent: eight words wait, or all that have arrived were
--- handed on.
+-- Source queues behind a cycle in which no flit is sent: eight words wait, or all that have arrived
+-- were enqueued.
 use Rattle.std.proofs.Common.{◌≡◌, ◌<◌, ◌∙◌, ◌+◌, ◌-◌, ℕ, suc, Bool, List, ◌++◌, Option, Some, None}
 use Rattle.std.proofs.Common.{ap, ap₂, arith, cond, inl, inr, length, min, refl, slice_get, sym}
 use Rattle.std.proofs.Common.{take, le-leb, lt-ltb, append-nil}
@@ -15,51 +15,57 @@ use Rattle.aeth_server.proofs.PrivateServerLemmas.{sent-more}
 use Rattle.aeth_report.specs.Carries.{returns, sends}
 use Rattle.aeth_components.proofs.{PartLemmas.with_part-same, QueueLemmas.changed-same}
 use Rattle.aeth_components.specs.{Changes.at_end, Changes.on_interface, Changes.told_at}
-use Rattle.aeth_components.specs.{Changes.told_by, Phases.handed_on, Queues.filled, Queues.fits}
+use Rattle.aeth_components.specs.{Changes.told_by, Phases.enqueued_by, Queues.filled, Queues.fits}
 use Rattle.aeth_components.specs.{View.queue_in, View.queue_of as queue_in_parts}
-use Rattle.aeth_components.specs.{declared.lane.Lane.Lane}
-use Rattle.aeth_refinement.specs.{Accepted.IsAccepted, Carried.Exact, Components.Net, Cycle.handing}
-use Rattle.aeth_refinement.specs.{Fabric.Fabric, Fabric.IsGoing, Fabric.Owns, Fabric.flow_at}
-use Rattle.aeth_refinement.specs.{Fabric.server_at, Standing.Stands, Switches.Switched}
-use Rattle.aeth_refinement.proofs.{Events.no-finish, Owning.waiting-length, Unique.injects-some}
-use Rattle.aeth_refinement.proofs.{Unique.paths-of}
-use Rattle.aeth_invariant.specs.Served.{handed_after}
+use Rattle.aeth_components.specs.{declared.channel_state.ChannelState.ChannelState}
+use Rattle.aeth_invariant.specs.{WellRouted.AreWellRouted, Carried.Exact, Components.Net}
+use Rattle.aeth_invariant.specs.{Cycle.enqueuing, RoutedSessions.RoutedSessions}
+use Rattle.aeth_invariant.specs.{RoutedSessions.IsOpenSession, RoutedSessions.Owns}
+use Rattle.aeth_invariant.specs.{RoutedSessions.flow_at, RoutedSessions.server_at, Standing.Stands}
+use Rattle.aeth_invariant.specs.{Switches.Switched}
+use Rattle.aeth_invariant.proofs.{Events.no-finish, Owning.waiting-length, Unique.injects-some}
+use Rattle.aeth_invariant.proofs.{Unique.paths-of}
+use Rattle.aeth_refinement.specs.Served.{enqueued_after}
 
-module _ (fabric : Fabric) (ok : IsAccepted fabric) (t c : ℕ) (known : c < fabric.count)
-    (going : IsGoing fabric c t) where
-  -- So many words were handed on behind a cycle.
-  pub handed-full : (old tables : Net) → Stands fabric t t old → Switched fabric (suc t) old tables
-      → handed_after fabric tables t c
-      ≡ min (sent (server_at fabric c) t + waiting_words) (arrived (server_at fabric c) (suc t))
-  handed-full old tables at change =
-      let server = server_at fabric c in
+module _ (sessions : RoutedSessions) (ok : AreWellRouted sessions) (t c : ℕ)
+    (known : c < sessions.count)
+    (going : IsOpenSession sessions c t) where
+  -- So many words were enqueued behind a cycle.
+  pub enqueued-full : (old tables : Net) → Stands sessions t t old
+      → Switched sessions (suc t) old tables
+      → enqueued_after sessions tables t c
+      ≡ min (sent (server_at sessions c) t + waiting_words) (arrived (server_at sessions c) (suc t))
+  enqueued-full old tables at change =
+      let server = server_at sessions c in
       let goes = going.goes in
       let unfinished = going.unfinished in
       let order = ok.ordered c known in
       let since = order.set_since in
       let set = order.set_go in
-      let own : Owns fabric c t = record { since = omega arith; finish = omega arith } in
+      let own : Owns sessions c t = record { since = omega arith; finish = omega arith } in
       let next : t + 1 ≡ suc t = omega arith in
       let all = ap (arrived server) next in
-      let low = at.handed_low c known own in
-      let high = at.handed_high c known own in
-      let few = at.handed_arrived c known own in
-      let waits = waiting-length fabric ok t t old at c known own in
+      let low = at.enqueued_low c known own in
+      let high = at.enqueued_high c known own in
+      let few = at.enqueued_arrived c known own in
+      let waits = waiting-length sessions ok t t old at c known own in
       let kept = ap (λ (words : List ℕ). length words)
-      (change.kept_waiting c known (no-finish fabric ok t c known (omega arith) (omega arith))) in
-      let handed = change.handed c known (omega arith) in
-      let is : handed_after fabric tables t c ≡ tables.handed c + handing fabric tables t c =
-      ap (λ (b : Bool). cond b (tables.handed c + handing fabric tables t c) (tables.handed c))
+      (change.kept_waiting c known (no-finish sessions ok t c known (omega arith) (omega arith))) in
+      let enqueued = change.enqueued c known (omega arith) in
+      let is : enqueued_after sessions tables t c
+      ≡ tables.enqueued c + enqueuing sessions tables t c =
+      ap (λ (b : Bool). cond b (tables.enqueued c + enqueuing sessions tables t c)
+      (tables.enqueued c))
       (and_from _ _ (le-leb server.go t goes) (lt-ltb t server.finish unfinished)) in
       omega arith
 
   -- Where the wires have no flit behind it, no word was sent in it.
-  pub sent-same : (wires : ℕ → Option Flit) → Exact fabric t wires → ((l : ℕ) → wires l ≡ None)
-      → sent (server_at fabric c) (t + 1) ≡ sent (server_at fabric c) t
+  pub sent-same : (wires : ℕ → Option Flit) → Exact sessions t wires → ((l : ℕ) → wires l ≡ None)
+      → sent (server_at sessions c) (t + 1) ≡ sent (server_at sessions c) t
   sent-same wires exact empty =
-      let server = server_at fabric c in
-      let flow = flow_at fabric c in
-      let more = sent-more server (paths-of fabric ok c known) t (t + 1) (omega arith) in
+      let server = server_at sessions c in
+      let flow = flow_at sessions c in
+      let more = sent-more server (paths-of sessions ok c known) t (t + 1) (omega arith) in
       elim (cases_lt 0 (sends flow t + returns flow t)) [
         | inr none ↦ omega arith
         | inl some ↦
@@ -68,7 +74,7 @@ module _ (fabric : Fabric) (ok : IsAccepted fabric) (t c : ℕ) (known : c < fab
               known = known;
               place = path.at;
               time = omega arith;
-              injected = injects-some fabric ok c t known some;
+              injected = injects-some sessions ok c t known some;
             }) in
             absurd (let both = sym (empty path.first) ∙ has in cc)
       ]
@@ -87,7 +93,7 @@ fits-full left queue full =
     let none : waiting_words - length queue.waiting ≡ 0 = omega arith in
     ap (λ n. length (take n left)) none
 
--- So a session whose queue is full hands nothing on.
+-- So a session whose queue is full enqueues nothing.
 module _ (left : List ℕ) (queue : ℕ) where
   at-full : (part : Part) → length (queue_in queue (Some part)).waiting ≡ waiting_words
       → on_interface (changed queue (filled left)) part ≡ part
@@ -97,24 +103,26 @@ module _ (left : List ℕ) (queue : ℕ) where
   at-full (TableRouter router) full = refl
   at-full (Stage stage) full = refl
 
-  told-full : (found : Option Part) → length (queue_in queue found).waiting ≡ waiting_words
+  logged-full : (found : Option Part) → length (queue_in queue found).waiting ≡ waiting_words
       → option_map_or (told_by queue (fits left)) found 0 ≡ 0
-  told-full None full = refl
-  told-full (Some (Interface ni)) full = fits-full left (queue_at ni.queues queue) full
-  told-full (Some (Router router)) full = refl
-  told-full (Some (TableRouter router)) full = refl
-  told-full (Some (Stage stage)) full = refl
+  logged-full None full = refl
+  logged-full (Some (Interface ni)) full = fits-full left (queue_at ni.queues queue) full
+  logged-full (Some (Router router)) full = refl
+  logged-full (Some (TableRouter router)) full = refl
+  logged-full (Some (Stage stage)) full = refl
 
-pub handed_on-full : (left : List ℕ) (parts : List Part) (lane : Lane)
-    → length (queue_in_parts parts lane.sender.ni.0 lane.sender.queue).waiting ≡ waiting_words
-    → handed_on left parts lane ≡ (parts, lane)
-handed_on-full left parts lane full =
-    let end = lane.sender in
+pub enqueued_on-full : (left : List ℕ) (parts : List Part) (channel_state : ChannelState)
+    → length (queue_in_parts parts channel_state.sender.ni.0 channel_state.sender.queue).waiting
+    ≡ waiting_words
+    → enqueued_by left parts channel_state ≡ (parts, channel_state)
+enqueued_on-full left parts channel_state full =
+    let end = channel_state.sender in
     let rest : at_end end (filled left) parts ≡ parts =
     with_part-same end.ni.0 (on_interface (changed end.queue (filled left))) parts
     (λ part at. at-full left end.queue part
     (ap (λ (found : Option Part). length (queue_in end.queue found).waiting) (sym at) ∙ full)) in
-    let told : told_at end (fits left) parts ≡ 0 =
-    told-full left end.queue (slice_get parts end.ni.0) full in
-    let same : lane.handed + told_at end (fits left) parts ≡ lane.handed = omega arith in
-    ap₂ (λ (some : List Part) (n : ℕ). (some, record lane { handed = n })) rest same
+    let logged : told_at end (fits left) parts ≡ 0 =
+    logged-full left end.queue (slice_get parts end.ni.0) full in
+    let same : channel_state.enqueued + told_at end (fits left) parts ≡ channel_state.enqueued =
+    omega arith in
+    ap₂ (λ (some : List Part) (n : ℕ). (some, record channel_state { enqueued = n })) rest same

@@ -7,37 +7,38 @@ use Rattle.aeth_base.specs.declared.ids.{Channel.Channel, LinkId.LinkId}
 use Rattle.aeth_base.proofs.Members.{Contains-slice_get, slice_get-Contains}
 use Rattle.aeth_chip.specs.{Paths.delay_of, Wires.wire_at}
 use Rattle.aeth_clocked.specs.Wires.{flit_on}
-use Rattle.aeth_components.specs.Lanes.{is_open}
+use Rattle.aeth_components.specs.ChannelStates.{is_open}
 use Rattle.aeth_group.proofs.MemberLemmas.{connections-groups_of}
 use Rattle.aeth_server.specs.PrivateServer.{PrivateServer, taken}
 use Rattle.aeth_report.specs.{Carries.carries, Flows.server_of, Flows.sessions_in, Sound.IsSound}
 use Rattle.aeth_report.specs.{declared.session.Session.Session, SessionList.listed_at}
 use Rattle.aeth_report.specs.{SessionList.place_at}
 use Rattle.aeth_report.proofs.{OneFlit.session-paths, SessionNumbers.listed-among}
-use Rattle.aeth_refinement.specs.{Accepted.IsAccepted, Fabric.IsGoing, Fabric.server_at}
+use Rattle.aeth_invariant.specs.WellRouted.{AreWellRouted}
+use Rattle.aeth_invariant.specs.RoutedSessions.{IsOpenSession, server_at}
 use Rattle.aeth_accepted.specs.Inputs.{AreAccepted, Inputs, run_of}
 use Rattle.aeth_accepted.proofs.SoundRuns.{AreSpans, is_sound}
-use Rattle.aeth_fabric.specs.Fabric.{ended, fabric_of}
-use Rattle.aeth_schedule.specs.Windows.{IsWithin}
+use Rattle.aeth_routed_sessions.specs.RoutedSessions.{ended, routed_sessions_of}
+use Rattle.aeth_schedule.specs.Windows.{IsInWindow}
 use Rattle.aeth_stimuli.specs.{Sessions.channel_of, Stimuli.Stimuli, Stimuli.stimuli_of}
 use Rattle.aeth_stimuli.specs.{Events.events_in}
-use Rattle.aeth_running.specs.{Idle.IsIdle, Network.NetworkState, Network.first_network}
-use Rattle.aeth_running.specs.{Network.goings_in, Network.offers_in, Network.played}
-use Rattle.aeth_running.specs.{Network.ready_in, Network.stepped, Running.IsRunning}
+use Rattle.aeth_running.specs.{Idle.IsIdleCycle, Network.NetworkState, Network.first_network}
+use Rattle.aeth_running.specs.{Network.session_starts_in, Network.offers_in, Network.played}
+use Rattle.aeth_running.specs.{Network.ready_in, Network.stepped, Running.HoldsBefore}
 use Rattle.aeth_running.specs.{Running.IsServing, Still.IsStill, Routing.Routing}
-use Rattle.aeth_running.proofs.{FabricSessions.placed-known, FabricSessions.session_at}
+use Rattle.aeth_running.proofs.{NumberedSessions.placed-known, NumberedSessions.session_at}
 use Rattle.aeth_running.proofs.{NetworkWires.exact, NetworkWires.nothing-first, Played.played-next}
 use Rattle.aeth_running.proofs.{Played.played-stimuli, Played.played-time}
 use Rattle.aeth_running.proofs.{SessionCycles.ended-server, SessionCycles.has-number}
-use Rattle.aeth_running.proofs.{StillEvents.no-events, StillGoings.no-goings, StillRows.no-offers}
-use Rattle.aeth_running.proofs.{StillRows.no-switches, StillRows.no-windows, StillRows.no-words}
-use Rattle.aeth_running.proofs.{StillTakes.rest-asked, StillTakes.rest-taken}
+use Rattle.aeth_running.proofs.{StillEvents.no-events, StillSessionStarts.no-session_starts}
+use Rattle.aeth_running.proofs.{StillRows.no-offers, StillRows.no-switches, StillRows.no-windows}
+use Rattle.aeth_running.proofs.{StillRows.no-words, StillTakes.rest-asked, StillTakes.rest-taken}
 use Rattle.aeth_running.proofs.{StillTakes.rests-early, StillWires.no-carries, StillWires.no-flits}
 
 module _ (inputs : Inputs) (routing : Routing) (accepted : AreAccepted inputs) (spans : AreSpans inputs accepted)
-    (ok : IsAccepted (fabric_of inputs))
+    (ok : AreWellRouted (routed_sessions_of inputs))
     (running : (t : ℕ) → t ≤ inputs.cycles
-    → IsRunning inputs t (played t (first_network inputs routing)).components)
+    → HoldsBefore inputs t (played t (first_network inputs routing)).components)
     (serving : (t : ℕ) → t < inputs.cycles
     → IsServing inputs t (played t (first_network inputs routing)).components
     (ready_in (played t (first_network inputs routing))))
@@ -51,9 +52,10 @@ module _ (inputs : Inputs) (routing : Routing) (accepted : AreAccepted inputs) (
   -- ---- takes
 
   module _ (t : ℕ) (early : t < inputs.cycles) where
-    -- A session's receiver takes nothing where none of the fabric does.
-    untaken-of : ((c : ℕ) → c < (fabric_of inputs).count
-        → taken (server_at (fabric_of inputs) c) (t + 1) ≡ taken (server_at (fabric_of inputs) c) t)
+    -- A session's receiver takes nothing where no routed session does.
+    untaken-of : ((c : ℕ) → c < (routed_sessions_of inputs).count
+        → taken (server_at (routed_sessions_of inputs) c) (t + 1)
+        ≡ taken (server_at (routed_sessions_of inputs) c) t)
         → (channel : Channel) (session : Session)
         → channel.conn.0 < (run_of inputs).design.groups.connections
         → Contains (sessions_in (run_of inputs) channel.conn.0) session
@@ -75,14 +77,16 @@ module _ (inputs : Inputs) (routing : Routing) (accepted : AreAccepted inputs) (
         ]
 
     -- And the other way round, of the sessions in use.
-    fabric-untaken : ((channel : Channel) (session : Session)
+    routed_sessions-untaken : ((channel : Channel) (session : Session)
         → channel.conn.0 < (run_of inputs).design.groups.connections
         → Contains (sessions_in (run_of inputs) channel.conn.0) session
         → taken (server_of (run_of inputs) channel session) (t + 1)
         ≡ taken (server_of (run_of inputs) channel session) t)
-        → (c : ℕ) → c < (fabric_of inputs).count → IsGoing (fabric_of inputs) c t
-        → taken (server_at (fabric_of inputs) c) (t + 1) ≡ taken (server_at (fabric_of inputs) c) t
-    fabric-untaken none c known going =
+        → (c : ℕ) → c < (routed_sessions_of inputs).count
+        → IsOpenSession (routed_sessions_of inputs) c t
+        → taken (server_at (routed_sessions_of inputs) c) (t + 1)
+        ≡ taken (server_at (routed_sessions_of inputs) c) t
+    routed_sessions-untaken none c known going =
         let run = run_of inputs in
         let channel = (listed_at run c).channel in
         let session = session_at inputs c in
@@ -132,7 +136,7 @@ module _ (inputs : Inputs) (routing : Routing) (accepted : AreAccepted inputs) (
         (sym (played-next (first_network inputs routing) t))
 
     -- An idle cycle leaves the network.
-    pub still-of : IsIdle (run_of inputs) t → IsStill (played t (first_network inputs routing))
+    pub still-of : IsIdleCycle (run_of inputs) t → IsStill (played t (first_network inputs routing))
     still-of idle =
         let stimuli = played-stimuli inputs routing t in
         let time = played-time inputs routing t in
@@ -143,22 +147,24 @@ module _ (inputs : Inputs) (routing : Routing) (accepted : AreAccepted inputs) (
           silent = λ l. next-wires l
               ∙ no-flits inputs routing behind t early (exact inputs routing running t early) idle.now l;
           unoffered = (λ i. offers_in (stimuli i) (time i)) ∙ no-offers inputs t early idle.unoffered;
-          ungone = λ late. (λ i. goings_in (stimuli i) (time i))
-              ∙ no-goings inputs t none (omega arith);
+          ungone = λ late. (λ i. session_starts_in (stimuli i) (time i))
+              ∙ no-session_starts inputs t none (omega arith);
           eventless = (λ i. events_in (stimuli i) (time i))
               ∙ no-events inputs accepted spans t none;
-          unasked = λ number lane at opened. rest-asked (fabric_of inputs) ok (channel_of inputs)
-              (ready_in all).words t serves.handed (ready_in all).lanes serves.follows.served
-              (fabric-untaken t early idle.untaken) number lane at
-              (ap (is_open lane) (sym time) ∙ opened);
+          unasked = λ number channel_state at opened. rest-asked (routed_sessions_of inputs) ok
+              (channel_of inputs)
+              (ready_in all).words t serves.enqueued (ready_in all).channel_states
+              serves.follows.served
+              (routed_sessions-untaken t early idle.untaken) number channel_state at
+              (ap (is_open channel_state) (sym time) ∙ opened);
           unswitched = subst (λ (s : Stimuli).
-              All (λ window. IsWithin window all.time → ⊥) s.schedule.windows) (sym stimuli)
-              (subst (λ (n : ℕ). All (λ window. IsWithin window n → ⊥)
+              All (λ window. IsInWindow window all.time → ⊥) s.schedule.windows) (sym stimuli)
+              (subst (λ (n : ℕ). All (λ window. IsInWindow window n → ⊥)
               (stimuli_of inputs).schedule.windows) (sym time) (no-windows inputs t early none));
         }
 
     -- And only such a one does.
-    pub idle-of : IsStill (played t (first_network inputs routing)) → IsIdle (run_of inputs) t
+    pub idle-of : IsStill (played t (first_network inputs routing)) → IsIdleCycle (run_of inputs) t
     idle-of still =
         let stimuli = played-stimuli inputs routing t in
         let time = played-time inputs routing t in
@@ -168,12 +174,15 @@ module _ (inputs : Inputs) (routing : Routing) (accepted : AreAccepted inputs) (
           before = before-of t early still.empty;
           unoffered = no-words inputs t early
               ((λ i. offers_in (sym stimuli i) (sym time i)) ∙ still.unoffered);
-          untaken = untaken-of t early (rest-taken (fabric_of inputs) ok (channel_of inputs)
-              (ready_in all).words t serves.handed (ready_in all).lanes serves.follows.served
-              (λ number lane at opened. still.unasked number lane at (ap (is_open lane) time ∙ opened)));
+          untaken = untaken-of t early
+              (rest-taken (routed_sessions_of inputs) ok (channel_of inputs)
+              (ready_in all).words t serves.enqueued (ready_in all).channel_states
+              serves.follows.served
+              (λ number channel_state at opened. still.unasked number channel_state at
+              (ap (is_open channel_state) time ∙ opened)));
           unswitched = no-switches inputs t early
-              (subst (λ (n : ℕ). All (λ window. IsWithin window n → ⊥)
+              (subst (λ (n : ℕ). All (λ window. IsInWindow window n → ⊥)
               (stimuli_of inputs).schedule.windows) time
-              (subst (λ (s : Stimuli). All (λ window. IsWithin window all.time → ⊥)
+              (subst (λ (s : Stimuli). All (λ window. IsInWindow window all.time → ⊥)
               s.schedule.windows) stimuli still.unswitched));
         }

@@ -10,7 +10,7 @@ use Rattle.aeth_tables.proofs.ListLaws.{all_from_places, all_has}
 use Rattle.aeth_trace.specs.declared.words.WordRow.{WordRow}
 use Rattle.aeth_report.specs.Sessions.{Switch}
 use Rattle.aeth_accepted.specs.Inputs.{Inputs, run_of}
-use Rattle.aeth_schedule.specs.{Switching.later_switches, Windows.IsWithin, Windows.window_by}
+use Rattle.aeth_schedule.specs.{Switching.later_switches, Windows.IsInWindow, Windows.window_by}
 use Rattle.aeth_schedule.specs.{Windows.windows_over, declared.windows.Window.Window}
 use Rattle.aeth_stimuli.specs.Stimuli.{Offer, offer_of, stimuli_of}
 use Rattle.aeth_running.specs.{Idle.FallsOn, Network.offers_in}
@@ -54,22 +54,22 @@ module _ (inputs : Inputs) (t : ℕ) (early : t < inputs.cycles) where
   -- A cycle is in no window where no switch falls on it.
   pub no-windows : ((switch : Switch) → Contains (later_switches inputs.switches) switch
       → FallsOn (run_of inputs).spans switch t → ⊥)
-      → All (λ window. IsWithin window t → ⊥)
+      → All (λ window. IsInWindow window t → ⊥)
       (windows_over (run_of inputs).spans inputs.switches)
   no-windows none =
       let spans = (run_of inputs).spans in
       let windows = windows_over spans inputs.switches in
-      all_from_places (λ (window : Window). IsWithin window t → ⊥) windows (λ place window at.
+      all_from_places (λ (window : Window). IsInWindow window t → ⊥) windows (λ place window at.
       let (switch, is, has) = map-Contains (window_by spans) (later_switches inputs.switches) window
       (Contains-slice_get windows place window at) in
-      subst (λ (one : Window). IsWithin one t → ⊥) is (none switch has))
+      subst (λ (one : Window). IsInWindow one t → ⊥) is (none switch has))
 
-  pub no-switches : All (λ window. IsWithin window t → ⊥)
+  pub no-switches : All (λ window. IsInWindow window t → ⊥)
       (windows_over (run_of inputs).spans inputs.switches)
       → (switch : Switch) → Contains (later_switches inputs.switches) switch
       → FallsOn (run_of inputs).spans switch t → ⊥
   no-switches none switch has =
       let spans = (run_of inputs).spans in
-      all_has (λ (window : Window). IsWithin window t → ⊥) (windows_over spans inputs.switches)
+      all_has (λ (window : Window). IsInWindow window t → ⊥) (windows_over spans inputs.switches)
       (window_by spans switch) none
       (Contains-map (window_by spans) (later_switches inputs.switches) switch has)

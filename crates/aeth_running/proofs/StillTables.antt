@@ -3,7 +3,7 @@ use Rattle.std.proofs.Common.{◌≡◌, ◌<◌, ℕ, All, Contains, [], refl, 
 use Rattle.aeth_tables.proofs.ListLaws.{all_has}
 use Rattle.aeth_report.specs.Sessions.{Switch}
 use Rattle.aeth_accepted.specs.Inputs.{Inputs, run_of}
-use Rattle.aeth_schedule.specs.{Switching.later_switches, Windows.IsWithin}
+use Rattle.aeth_schedule.specs.{Switching.later_switches, Windows.IsInWindow}
 use Rattle.aeth_running.proofs.StillRows.{no-switches, none-kept}
 use Rattle.aeth_running.proofs.Played.{played-stimuli, played-time}
 use Rattle.aeth_running.specs.{Idle.FallsOn, Network.first_network, Network.played}
@@ -30,7 +30,7 @@ pub still-unentered : (inputs : Inputs) (routing : Routing) → IsRoutingFor inp
 still-unentered inputs routing routes t early still =
     let all = played t (first_network inputs routing) in
     no-enterings inputs routing routes t (no-switches inputs t early
-    (subst (λ (n : ℕ). All (λ window. IsWithin window n → ⊥)
+    (subst (λ (n : ℕ). All (λ window. IsInWindow window n → ⊥)
     (stimuli_of inputs).schedule.windows) (played-time inputs routing t)
-    (subst (λ (s : Stimuli). All (λ window. IsWithin window all.time → ⊥) s.schedule.windows)
+    (subst (λ (s : Stimuli). All (λ window. IsInWindow window all.time → ⊥) s.schedule.windows)
     (played-stimuli inputs routing t) still.unswitched)))

@@ -11,9 +11,10 @@ use Rattle.aeth_trace.specs.{Channels.channel_number, declared.words.WordRow.Wor
 use Rattle.aeth_report.specs.{Flows.close_at, Flows.flow_of, Flows.flows_on, Flows.sessions_in}
 use Rattle.aeth_report.specs.{RunLog.is_accepted, declared.session.Session.Session}
 use Rattle.aeth_accepted.specs.Inputs.{Inputs, run_of}
-use Rattle.aeth_schedule.specs.{Goings.goings_of, declared.going.Going.Going}
-use Rattle.aeth_stimuli.specs.Stimuli.{goings_over, is_over, stimuli_of}
-use Rattle.aeth_stimuli.specs.Sessions.{SessionGoing, as_going, going_of}
+use Rattle.aeth_schedule.specs.SessionStarts.{session_starts_of}
+use Rattle.aeth_schedule.specs.declared.session_start.SessionStart.{SessionStart}
+use Rattle.aeth_stimuli.specs.Stimuli.{session_starts_over, is_over, stimuli_of}
+use Rattle.aeth_stimuli.specs.Sessions.{SessionStartData, as_session_start, session_start_of}
 use Rattle.aeth_stimuli.proofs.WordWindows.{below-none}
 use Rattle.aeth_running.specs.Network.{first_network, played, until_with, untils_in}
 use Rattle.aeth_running.specs.Routing.{Routing}
@@ -31,35 +32,39 @@ last-shown {X} {Y} show go until t before xs =
     ap (λ (ys : List Y). fold (λ (last : ℕ) y. until y) before ys) (filter-map gone show xs)
     ∙ fold-map (λ (last : ℕ) y. until y) show before (filter (λ x. gone (show x)) xs)
 
-module _ (inputs : Inputs) (routing : Routing) (ordered : IsNonDecreasingBy (λ going. going.lane.go) (goings_of inputs))
+module _ (inputs : Inputs) (routing : Routing)
+    (ordered : IsNonDecreasingBy (λ session_start. session_start.channel_state.go)
+    (session_starts_of inputs))
   where
     abbrev zeros : List ℕ
     zeros = replicate (2 * length inputs.app.connections) 0
 
-    abbrev gone_by : ℕ → List Going
-    gone_by t = filter (below go_of t) (goings_of inputs)
+    abbrev gone_by : ℕ → List SessionStart
+    gone_by t = filter (below go_of t) (session_starts_of inputs)
 
     -- Until when channels accept words, by the sessions that went before a cycle.
     untils-are : (t : ℕ) → (played t (first_network inputs routing)).untils
         ≡ fold until_with zeros (gone_by t)
     untils-are zero =
         untils-first inputs routing
-        ∙ ap (λ (list : List Going). fold until_with zeros list)
-        (sym (below-none go_of 0 (goings_of inputs) (λ k d within. omega arith)))
+        ∙ ap (λ (list : List SessionStart). fold until_with zeros list)
+        (sym (below-none go_of 0 (session_starts_of inputs) (λ k d within. omega arith)))
     untils-are (suc t) =
         let next : suc t ≡ t + 1 = omega arith in
-        let here = filter (λ (going : Going). going.lane.go == t) (goings_of inputs) in
+        let here = filter (λ (session_start : SessionStart). session_start.channel_state.go == t)
+        (session_starts_of inputs) in
         ap (λ n. (played n (first_network inputs routing)).untils) next
         ∙ untils-next inputs routing t
         ∙ ap (λ (list : List ℕ). fold until_with list here) (untils-are t)
         ∙ sym (fold-append until_with zeros (gone_by t) here)
-        ∙ ap (λ (list : List Going). fold until_with zeros list)
-        (sym (below-next go_of t (goings_of inputs) ordered))
+        ∙ ap (λ (list : List SessionStart). fold until_with zeros list)
+        (sym (below-next go_of t (session_starts_of inputs) ordered))
         ∙ ap (λ n. fold until_with zeros (gone_by n)) (sym next)
 
     module _ (channel : Channel) (within : channel_number channel < 2 * length inputs.app.connections)
-        (goings_are : map as_going (goings_over (channel_number channel) (goings_of inputs))
-        ≡ map (going_of inputs channel) (filter (λ session. nat_lt session.go inputs.cycles)
+        (session_starts_are : map as_session_start
+        (session_starts_over (channel_number channel) (session_starts_of inputs))
+        ≡ map (session_start_of inputs channel) (filter (λ session. nat_lt session.go inputs.cycles)
         (sessions_in (run_of inputs) channel.conn.0)))
         (alone : AllPairs (λ one other. (close_at inputs.cycles one).until ≤ other.go)
         (sessions_in (run_of inputs) channel.conn.0)) where
@@ -82,26 +87,33 @@ module _ (inputs : Inputs) (routing : Routing) (ordered : IsNonDecreasingBy (λ 
           → until_at t ≡ last_until session_go session_until t 0 sessions
       until-is t early =
           let number = channel_number channel in
-          let all = goings_of inputs in
+          let all = session_starts_of inputs in
           let size : length zeros ≡ 2 * length inputs.app.connections =
           length-replicate (2 * length inputs.app.connections) 0 in
-          let until = λ (going : Going). going.until in
+          let until = λ (session_start : SessionStart). session_start.until in
           let next = t + 1 in
           ap (λ (list : List ℕ). slice_index list number)
           (sym (untils-next inputs routing t) ∙ untils-are next)
-          ∙ written-last (λ (going : Going). channel_number going.channel) until number zeros
+          ∙ written-last (λ (session_start : SessionStart). channel_number session_start.channel)
+          until number zeros
           (gone_by next) (omega arith)
-          ∙ ap (λ start. fold (λ (last : ℕ) going. until going) start
+          ∙ ap (λ start. fold (λ (last : ℕ) session_start. until session_start) start
           (filter (is_over number) (gone_by next)))
           (get_or-replicate (2 * length inputs.app.connections) number 0 0 within)
-          ∙ ap (λ (list : List Going). fold (λ (last : ℕ) going. until going) 0 list)
+          ∙ ap (λ (list : List SessionStart). fold (λ (last : ℕ) session_start. until session_start)
+          0 list)
           (filter-swap (is_over number) (below go_of next) all)
-          ∙ sym (last-shown as_going (λ (going : SessionGoing). going.lane.go)
-          (λ (going : SessionGoing). going.until) t 0 (goings_over number all))
-          ∙ ap (λ (list : List SessionGoing). last_until (λ (going : SessionGoing). going.lane.go)
-          (λ (going : SessionGoing). going.until) t 0 list) goings_are
-          ∙ last-shown (going_of inputs channel) (λ (going : SessionGoing). going.lane.go)
-          (λ (going : SessionGoing). going.until) t 0 (filter (below session_go inputs.cycles) sessions)
+          ∙ sym (last-shown as_session_start
+          (λ (session_start : SessionStartData). session_start.channel_state.go)
+          (λ (session_start : SessionStartData). session_start.until) t 0
+          (session_starts_over number all))
+          ∙ ap (λ (list : List SessionStartData). last_until
+          (λ (session_start : SessionStartData). session_start.channel_state.go)
+          (λ (session_start : SessionStartData). session_start.until) t 0 list) session_starts_are
+          ∙ last-shown (session_start_of inputs channel)
+          (λ (session_start : SessionStartData). session_start.channel_state.go)
+          (λ (session_start : SessionStartData). session_start.until) t 0
+          (filter (below session_go inputs.cycles) sessions)
           ∙ ap (λ (list : List Session). fold (λ (last : ℕ) session. session_until session) 0 list)
           (below-wider session_go next inputs.cycles sessions (omega arith))
 

@@ -13,19 +13,21 @@ use Rattle.aeth_trace.specs.{declared.words.WordRow.WordRow}
 use Rattle.aeth_report.specs.{Channels.channels_of, Log.ChannelData, Log.LogData, Log.SessionData}
 use Rattle.aeth_report.specs.{declared.log.Landing.Landing}
 use Rattle.aeth_accepted.specs.Inputs.{Inputs}
-use Rattle.aeth_schedule.specs.{Goings.goings_of, declared.going.Going.Going}
-use Rattle.aeth_stimuli.specs.Stimuli.{goings_over}
+use Rattle.aeth_schedule.specs.SessionStarts.{session_starts_of}
+use Rattle.aeth_schedule.specs.declared.session_start.SessionStart.{SessionStart}
+use Rattle.aeth_stimuli.specs.Stimuli.{session_starts_over}
 
 module _ (words : List WordRow) where
   -- The words that a session accepts within the run.
-  abbrev pub rows_of : Going → List WordRow
-  rows_of going = take going.count (drop going.before (words_on words going.channel))
+  abbrev pub rows_of : SessionStart → List WordRow
+  rows_of session_start =
+      take session_start.count (drop session_start.before (words_on words session_start.channel))
 
   -- A row for the word behind the first k of them, as of which none has landed.
-  abbrev pub first_row : Going → ℕ → Landing
-  first_row going k =
-      let rows = rows_of going in
-      let shape = shape_of going.shape in
+  abbrev pub first_row : SessionStart → ℕ → Landing
+  first_row session_start k =
+      let rows = rows_of session_start in
+      let shape = shape_of session_start.shape in
       record {
         offered = slice_index (map (λ row. row.cycle) rows) k;
         landed = 0;
@@ -35,14 +37,14 @@ module _ (words : List WordRow) where
       }
 
   -- A session in a run of so many cycles, of which nothing has landed yet.
-  abbrev pub first_session : ℕ → Going → SessionData
-  first_session cycles going = record {
-    go = going.lane.go;
-    ended = nat_lt going.lane.fin cycles;
-    offered = going.count;
+  abbrev pub first_session : ℕ → SessionStart → SessionData
+  first_session cycles session_start = record {
+    go = session_start.channel_state.go;
+    ended = nat_lt session_start.channel_state.fin cycles;
+    offered = session_start.count;
     landed = 0;
     taken = 0;
-    rows = map (first_row going) (range_with_len 0 going.count);
+    rows = map (first_row session_start) (range_with_len 0 session_start.count);
   }
 
 -- A channel with its sessions.
@@ -50,7 +52,7 @@ abbrev pub first_channel : Inputs → Channel → ChannelData
 first_channel inputs channel = record {
   channel = channel;
   sessions = map (first_session inputs.words inputs.cycles)
-      (goings_over (channel_number channel) (goings_of inputs));
+      (session_starts_over (channel_number channel) (session_starts_of inputs));
   outside = 0;
 }
 

@@ -1,7 +1,7 @@
 -- Cycles of a run in which nothing happens.
 --
 --   FallsOn      a cycle in which a switch does something
---   IsIdle      a cycle in which no link carries a flit, no word is offered or taken, and no switch does
+--   IsIdleCycle      a cycle in which no link carries a flit, no word is offered or taken, and no switch does
 --               anything
 --   IsNextBusyOf      the next cycle of a run that isn't idle
 -- This project's own.
@@ -24,7 +24,7 @@ FallsOn spans switch t =
 -- Nothing happens in a cycle of a run: no link has a flit on its way, as the cycle begins or in it, no
 -- word is offered, no receiver takes a word, and no switch does anything. The first row of switches is
 -- none: it loads its use case before cycle 0.
-pub record IsIdle (run : Run) (t : ℕ) : Type 0 where
+pub record IsIdleCycle (run : Run) (t : ℕ) : Type 0 where
   pub now : (link : LinkId) (j u : ℕ) → j < delay_of run.design.chip.links link → u + j ≡ t
       → carries run link.0 u ≡ []
   pub before : (link : LinkId) (j u : ℕ) → j < delay_of run.design.chip.links link → u + j + 1 ≡ t
@@ -41,5 +41,5 @@ pub record IsIdle (run : Run) (t : ℕ) : Type 0 where
 pub record IsNextBusyOf (run : Run) (from end t : ℕ) : Type 0 where
   pub since : from ≤ t
   pub within : t ≤ end
-  pub idle : (earlier : ℕ) → from ≤ earlier → earlier < t → IsIdle run earlier
-  pub busy : t < end → IsIdle run t → ⊥
+  pub idle : (earlier : ℕ) → from ≤ earlier → earlier < t → IsIdleCycle run earlier
+  pub busy : t < end → IsIdleCycle run t → ⊥

@@ -6,4 +6,4 @@ pub mod Quiet
 pub mod Routing
 pub mod Running
 pub mod Still
-pub mod Told
+pub mod Logged

@@ -2,8 +2,8 @@
 --
 --   NetworkState      a network: what it is given, its components, and what a log is made of
 --   state_behind      the components once a cycle is done, with these events
---   goings_in, offers_in, takes_in      what a cycle brings
---   untils_in, lanes_in, outside_in      sessions go, words are accepted, and receivers take
+--   session_starts_in, offers_in, takes_in      what a cycle brings
+--   untils_in, channel_states_in, outside_in      sessions go, words are accepted, and receivers take
 --   stepped, played      a network behind one cycle, and behind so many
 --   first_network      the network of inputs before the first cycle
 -- This project's own.
@@ -15,12 +15,13 @@ use Rattle.aeth_report.specs.Log.{LogData}
 use Rattle.aeth_components.specs.Components.{ComponentsState, components_of, latched_of, moment_of}
 use Rattle.aeth_components.specs.Components.{ready_of, wires_driven}
 use Rattle.aeth_components.specs.Counting.{counted, flits_counted, noted}
-use Rattle.aeth_components.specs.Lanes.{with_lane}
-use Rattle.aeth_components.specs.declared.{event.Event.Event, lane.Lane.Lane}
+use Rattle.aeth_components.specs.ChannelStates.{with_channel_state}
+use Rattle.aeth_components.specs.declared.event.Event.{Event}
+use Rattle.aeth_components.specs.declared.channel_state.ChannelState.{ChannelState}
 use Rattle.aeth_accepted.specs.Inputs.{Inputs}
-use Rattle.aeth_schedule.specs.declared.going.Going.{Going}
-use Rattle.aeth_stimuli.specs.{Loaded.loaded_as, Loaded.no_lane, Stimuli.Offer, Stimuli.Stimuli}
-use Rattle.aeth_stimuli.specs.{Stimuli.Take, Stimuli.stimuli_of, Events.events_in}
+use Rattle.aeth_schedule.specs.declared.session_start.SessionStart.{SessionStart}
+use Rattle.aeth_stimuli.specs.{Loaded.loaded_as, Loaded.no_channel_state, Stimuli.Offer}
+use Rattle.aeth_stimuli.specs.{Stimuli.Stimuli, Stimuli.Take, Stimuli.stimuli_of, Events.events_in}
 use Rattle.aeth_running.specs.FirstLog.{first_log}
 use Rattle.aeth_running.specs.Routing.{Routing, entered_first, entered_with, enterings_in, kind_of}
 
@@ -34,7 +35,7 @@ pub record NetworkState : Type 0 where
   pub components : ComponentsState
   pub untils : List ℕ
   pub outside : List ℕ
-  pub replaced : List Lane
+  pub replaced : List ChannelState
   pub log : LogData
   pub time : ℕ
 
@@ -44,12 +45,15 @@ state_behind events cycle old =
     let ready = ready_of old.words events cycle (moment_of old) in
     let wires = wires_driven ready.parts (length old.wires) cycle in
     let latched = latched_of old.words events cycle wires (moment_of old) in
-    components_of latched.parts wires (map (counted cycle latched.parts) latched.lanes) old.words
-    (fold (noted cycle latched.parts) old.landings latched.lanes) (flits_counted wires old.flits)
+    components_of latched.parts wires (map (counted cycle latched.parts) latched.channel_states)
+    old.words
+    (fold (noted cycle latched.parts) old.landings latched.channel_states)
+    (flits_counted wires old.flits)
 
 -- What a cycle brings beside its events: the sessions that go.
-abbrev pub goings_in : Stimuli → ℕ → List Going
-goings_in all t = filter (λ going. going.lane.go == t) all.schedule.goings
+abbrev pub session_starts_in : Stimuli → ℕ → List SessionStart
+session_starts_in all t =
+    filter (λ session_start. session_start.channel_state.go == t) all.schedule.session_starts
 
 -- The words that are offered.
 abbrev pub offers_in : Stimuli → ℕ → List Offer
@@ -60,20 +64,25 @@ abbrev pub takes_in : Stimuli → ℕ → List Take
 takes_in all t = filter (λ take. take.cycle == t) all.takes
 
 -- A session goes: its channel accepts words until it stops.
-abbrev pub until_with : List ℕ → Going → List ℕ
-until_with untils going = slice_set untils (channel_number going.channel) going.until
+abbrev pub until_with : List ℕ → SessionStart → List ℕ
+until_with untils session_start =
+    slice_set untils (channel_number session_start.channel) session_start.until
 
 -- And its channel begins anew. Its receiver takes words as before.
-abbrev pub gone_with : List Lane → Going → List Lane
-gone_with lanes going =
-    with_lane (channel_number going.channel) (λ lane. record going.lane { pull = lane.pull }) lanes
+abbrev pub gone_with : List ChannelState → SessionStart → List ChannelState
+gone_with channel_states session_start =
+    with_channel_state (channel_number session_start.channel)
+    (λ channel_state. record session_start.channel_state { pull = channel_state.pull })
+    channel_states
 
 -- A word that is offered in cycle t is accepted by the session of its channel, where this goes on.
-abbrev pub accepted_with : ℕ → List ℕ → List Lane → Offer → List Lane
-accepted_with t untils lanes offer =
+abbrev pub accepted_with : ℕ → List ℕ → List ChannelState → Offer → List ChannelState
+accepted_with t untils channel_states offer =
     if nat_lt t (slice_index untils offer.number)
-    then with_lane offer.number (λ lane. record lane { accepted = lane.accepted + 1 }) lanes
-    else lanes
+    then with_channel_state offer.number
+    (λ channel_state. record channel_state { accepted = channel_state.accepted + 1 })
+    channel_states
+    else channel_states
 
 -- Else it is outside of all sessions.
 abbrev pub outside_with : ℕ → List ℕ → List ℕ → Offer → List ℕ
@@ -82,20 +91,23 @@ outside_with t untils outside offer =
     else slice_set outside offer.number (slice_index outside offer.number + 1)
 
 -- A receiver takes words as a row says.
-abbrev pub taking_with : List Lane → Take → List Lane
-taking_with lanes take = with_lane take.number (λ lane. record lane { pull = take.pull }) lanes
+abbrev pub taking_with : List ChannelState → Take → List ChannelState
+taking_with channel_states take =
+    with_channel_state take.number (λ channel_state. record channel_state { pull = take.pull })
+    channel_states
 
 module _ (all : Stimuli) (t : ℕ) where
   -- Until when channels accept words in a cycle.
   abbrev pub untils_in : List ℕ → List ℕ
-  untils_in untils = fold until_with untils (goings_in all t)
+  untils_in untils = fold until_with untils (session_starts_in all t)
 
   -- The channels in a cycle: sessions that go have gone, words that are offered are accepted, and
   -- receivers take as their rows say.
-  abbrev pub lanes_in : List ℕ → List Lane → List Lane
-  lanes_in untils lanes =
+  abbrev pub channel_states_in : List ℕ → List ChannelState → List ChannelState
+  channel_states_in untils channel_states =
       fold taking_with
-      (fold (accepted_with t untils) (fold gone_with lanes (goings_in all t)) (offers_in all t))
+      (fold (accepted_with t untils) (fold gone_with channel_states (session_starts_in all t))
+      (offers_in all t))
       (takes_in all t)
 
   -- The words that are outside of all sessions, with those of the cycle.
@@ -107,8 +119,9 @@ module _ (all : Stimuli) (t : ℕ) where
 abbrev pub ready_in : NetworkState → ComponentsState
 ready_in old = record old.components {
   parts = fold entered_with old.components.parts (enterings_in old.routing old.time);
-  lanes = lanes_in old.stimuli old.time (untils_in old.stimuli old.time old.untils)
-      old.components.lanes;
+  channel_states =
+      channel_states_in old.stimuli old.time (untils_in old.stimuli old.time old.untils)
+      old.components.channel_states;
 }
 
 -- A network behind one more cycle.
@@ -120,8 +133,9 @@ stepped old =
       untils = untils;
       outside = outside_in old.stimuli old.time untils old.outside;
       replaced = old.replaced
-          ++ map (λ going. slice_index_or old.components.lanes (channel_number going.channel) no_lane)
-          (goings_in old.stimuli old.time);
+          ++ map (λ session_start. slice_index_or old.components.channel_states
+          (channel_number session_start.channel) no_channel_state)
+          (session_starts_in old.stimuli old.time);
       time = old.time + 1;
     }
 

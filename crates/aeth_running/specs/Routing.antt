@@ -16,9 +16,9 @@ use Rattle.aeth_report.specs.Sessions.{Switch}
 use Rattle.aeth_components.specs.Entering.{with_rows}
 use Rattle.aeth_components.specs.declared.making.RouterKind.{RouterKind}
 use Rattle.aeth_components.specs.declared.making.RouterKind.TheVariants.{ByHeader, ByTable}
-use Rattle.aeth_refinement.specs.Tables.{AreEntries}
+use Rattle.aeth_invariant.specs.Tables.{AreEntries}
 use Rattle.aeth_accepted.specs.Inputs.{Inputs, run_of}
-use Rattle.aeth_fabric.specs.Fabric.{fabric_of}
+use Rattle.aeth_routed_sessions.specs.RoutedSessions.{routed_sessions_of}
 use Rattle.aeth_schedule.specs.Switching.{later_switches}
 use Rattle.aeth_rtable.specs.Sending.{from_rows}
 use Rattle.aeth_running.specs.Idle.{FallsOn}
@@ -88,7 +88,7 @@ module _ (inputs : Inputs) (routing : Routing) where
     pub order : IsNonDecreasingBy (λ entering. entering.cycle) (later_rows routing)
     pub switched : All IsSwitched (later_rows routing)
     pub entries : (t : ℕ) → t < inputs.cycles
-        → AreEntries (fabric_of inputs) t (from_rows inputs.chip (rows_at routing t) t)
+        → AreEntries (routed_sessions_of inputs) t (from_rows inputs.chip (rows_at routing t) t)
 
   -- Where routers look tables up these are such tables.
   abbrev pub IsRoutingFor : Type 0

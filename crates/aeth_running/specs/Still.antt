@@ -10,11 +10,12 @@
 -- This project's own.
 use Rattle.std.proofs.Common.{◌≡◌, ◌<◌, ◌+◌, ℕ, true, [], None, Some, All, fold, slice_get}
 use Rattle.aeth_clocked.specs.Wires.{flit_on}
-use Rattle.aeth_components.specs.{Lanes.is_open, Phases.asked_of, declared.lane.Lane.Lane}
-use Rattle.aeth_schedule.specs.Windows.{IsWithin}
+use Rattle.aeth_components.specs.{ChannelStates.is_open, Phases.asked_of}
+use Rattle.aeth_components.specs.{declared.channel_state.ChannelState.ChannelState}
+use Rattle.aeth_schedule.specs.Windows.{IsInWindow}
 use Rattle.aeth_stimuli.specs.Events.{events_in}
-use Rattle.aeth_running.specs.Network.{NetworkState, goings_in, offers_in, ready_in, stepped}
-use Rattle.aeth_running.specs.Network.{takes_in, taking_with}
+use Rattle.aeth_running.specs.Network.{NetworkState, session_starts_in, offers_in, ready_in}
+use Rattle.aeth_running.specs.Network.{stepped, takes_in, taking_with}
 
 -- The next cycle leaves a network as it is, but for sessions that go in cycle 0 and for how receivers
 -- take: no wire has a flit, before it and behind it, no word is offered, no later session goes, no event
@@ -23,18 +24,19 @@ pub record IsStill (all : NetworkState) : Type 0 where
   pub empty : (l : ℕ) → flit_on all.components.wires l ≡ None
   pub silent : (l : ℕ) → flit_on (stepped all).components.wires l ≡ None
   pub unoffered : offers_in all.stimuli all.time ≡ []
-  pub ungone : 0 < all.time → goings_in all.stimuli all.time ≡ []
+  pub ungone : 0 < all.time → session_starts_in all.stimuli all.time ≡ []
   pub eventless : events_in all.stimuli all.time ≡ []
-  pub unasked : (number : ℕ) (lane : Lane) → slice_get (ready_in all).lanes number ≡ Some lane
-      → is_open lane all.time ≡ true → asked_of lane ≡ 0
-  pub unswitched : All (λ window. IsWithin window all.time → ⊥) all.stimuli.schedule.windows
+  pub unasked : (number : ℕ) (channel_state : ChannelState)
+      → slice_get (ready_in all).channel_states number ≡ Some channel_state
+      → is_open channel_state all.time ≡ true → asked_of channel_state ≡ 0
+  pub unswitched : All (λ window. IsInWindow window all.time → ⊥) all.stimuli.schedule.windows
 
 -- A network behind a later cycle that left it: its receivers take as the rows of the cycle say, and one
 -- cycle more is done.
 abbrev pub passed_over : NetworkState → NetworkState
 passed_over all = record all {
   components = record all.components {
-    lanes = fold taking_with all.components.lanes (takes_in all.stimuli all.time);
+    channel_states = fold taking_with all.components.channel_states (takes_in all.stimuli all.time);
   };
   time = all.time + 1;
 }

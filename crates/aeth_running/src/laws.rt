@@ -1,17 +1,17 @@
 //! What holds of the network of accepted inputs, over the definitions alone.
 ghost use Rattle.std.specs.Prelude.{◌≡◌, ℕ, Some, length, ◌≤◌, ◌<◌, ◌+◌, ◌-◌, ◌↔◌, None};
-ghost use Rattle.aeth_refinement.specs.Fabric.{AtRouter, Owns, flow_at, server_at};
-ghost use Rattle.aeth_refinement.specs.Carried.{IsPassed, words_from};
+ghost use Rattle.aeth_invariant.specs.RoutedSessions.{AtRouter, Owns, flow_at, server_at};
+ghost use Rattle.aeth_invariant.specs.Carried.{IsPassed, words_from};
 ghost use Rattle.aeth_accepted.specs.Inputs.{AreAccepted, Inputs, run_of};
-ghost use Rattle.aeth_fabric.specs.Fabric.{fabric_of};
-ghost use Rattle.aeth_running.specs.Idle.{IsIdle};
+ghost use Rattle.aeth_routed_sessions.specs.RoutedSessions.{routed_sessions_of};
+ghost use Rattle.aeth_running.specs.Idle.{IsIdleCycle};
 ghost use Rattle.aeth_running.specs.Lossless.{LosesNothing};
 ghost use Rattle.aeth_running.specs.Network.{first_network, played, ready_in};
 ghost use Rattle.aeth_running.specs.Quiet.{IsQuiet, brought_over, rested};
 ghost use Rattle.aeth_running.specs.Routing.{IsRoutingFor, Routing};
-ghost use Rattle.aeth_running.specs.Running.{IsRunning, IsServing};
+ghost use Rattle.aeth_running.specs.Running.{HoldsBefore, IsServing};
 ghost use Rattle.aeth_running.specs.Still.{IsStill, passed_over};
-ghost use Rattle.aeth_running.specs.Told.{network_log};
+ghost use Rattle.aeth_running.specs.Logged.{network_log};
 ghost use Rattle.aeth_report.specs.RunLog.{log_of};
 ghost use Rattle.std.specs.Option.{option_to_list};
 ghost use Rattle.aeth_base.specs.declared.ids.LinkId.{LinkId};
@@ -28,24 +28,24 @@ ghost use Rattle.aeth_components.specs.View.{queue_of};
 pub fn networks_run()
     ensures { (inputs : Inputs) → AreAccepted inputs → (routing : Routing)
         → IsRoutingFor inputs routing → (t : ℕ) → t ≤ inputs.cycles
-        → IsRunning inputs t (played t (first_network inputs routing)).components }
+        → HoldsBefore inputs t (played t (first_network inputs routing)).components }
 {
     aeth_stimuli::laws::chips_begin();
     aeth_stimuli::laws::sessions_go();
     aeth_stimuli::laws::sessions_are_apart();
     aeth_stimuli::laws::words_are_placed();
-    aeth_stimuli::laws::fabrics_are_over_chips();
+    aeth_stimuli::laws::routed_sessions_are_over_chips();
     aeth_stimuli::laws::events_are_events();
     aeth_stimuli::laws::stimuli_are_stimuli();
     aeth_tables::laws::switches();
-    aeth_fabric::laws::runs_have_fabrics();
-    aeth_invariant::laws::runs_begin();
-    aeth_invariant::laws::components_are_prepared();
-    aeth_invariant::laws::cycles_are_cycles();
-    aeth_invariant::laws::cycles_keep_running();
-    aeth_invariant::laws::flits_are_counted();
-    aeth_invariant::laws::sessions_are_told();
-    aeth_invariant::laws::landings_are_noted();
+    aeth_routed_sessions::laws::runs_have_routed_sessions();
+    aeth_refinement::laws::runs_begin();
+    aeth_refinement::laws::components_are_prepared();
+    aeth_refinement::laws::cycles_are_cycles();
+    aeth_refinement::laws::cycles_keep_running();
+    aeth_refinement::laws::flits_are_counted();
+    aeth_refinement::laws::sessions_are_logged();
+    aeth_refinement::laws::landings_are_noted();
 }
 
 /// Once it is ready for a cycle each session in use has its channel, with the counts of its private server, and
@@ -60,18 +60,18 @@ pub fn networks_serve()
     aeth_stimuli::laws::sessions_go();
     aeth_stimuli::laws::sessions_are_apart();
     aeth_stimuli::laws::words_are_placed();
-    aeth_stimuli::laws::fabrics_are_over_chips();
+    aeth_stimuli::laws::routed_sessions_are_over_chips();
     aeth_stimuli::laws::events_are_events();
     aeth_stimuli::laws::stimuli_are_stimuli();
     aeth_tables::laws::switches();
-    aeth_fabric::laws::runs_have_fabrics();
-    aeth_invariant::laws::runs_begin();
-    aeth_invariant::laws::components_are_prepared();
-    aeth_invariant::laws::cycles_are_cycles();
-    aeth_invariant::laws::cycles_keep_running();
-    aeth_invariant::laws::flits_are_counted();
-    aeth_invariant::laws::sessions_are_told();
-    aeth_invariant::laws::landings_are_noted();
+    aeth_routed_sessions::laws::runs_have_routed_sessions();
+    aeth_refinement::laws::runs_begin();
+    aeth_refinement::laws::components_are_prepared();
+    aeth_refinement::laws::cycles_are_cycles();
+    aeth_refinement::laws::cycles_keep_running();
+    aeth_refinement::laws::flits_are_counted();
+    aeth_refinement::laws::sessions_are_logged();
+    aeth_refinement::laws::landings_are_noted();
 }
 
 /// The cycles of a run that leave its network as it is, but for sessions that go in cycle 0 and for how
@@ -79,12 +79,12 @@ pub fn networks_serve()
 pub fn idle_cycles_are_still()
     ensures { (inputs : Inputs) → AreAccepted inputs → (routing : Routing)
         → IsRoutingFor inputs routing → (t : ℕ) → t < inputs.cycles
-        → IsStill (played t (first_network inputs routing)) ↔ IsIdle (run_of inputs) t }
+        → IsStill (played t (first_network inputs routing)) ↔ IsIdleCycle (run_of inputs) t }
 {
     networks_run();
     networks_serve();
     networks_carry();
-    aeth_fabric::laws::runs_have_fabrics();
+    aeth_routed_sessions::laws::runs_have_routed_sessions();
     aeth_tables::laws::switches();
 }
 
@@ -107,9 +107,9 @@ pub fn still_cycles_rest()
     networks_serve();
     idle_cycles_are_still();
     aeth_stimuli::laws::events_are_events();
-    aeth_fabric::laws::runs_have_fabrics();
-    aeth_invariant::laws::switches_are_made();
-    aeth_invariant::laws::cycles_are_cycles();
+    aeth_routed_sessions::laws::runs_have_routed_sessions();
+    aeth_refinement::laws::switches_are_made();
+    aeth_refinement::laws::cycles_are_cycles();
 }
 
 /// Where the wires of a network are empty and so many cycles leave it, the next one leaves it too just
@@ -127,9 +127,9 @@ pub fn quiet_cycles_are_still()
     networks_serve();
     still_cycles_rest();
     aeth_stimuli::laws::events_are_events();
-    aeth_fabric::laws::runs_have_fabrics();
-    aeth_invariant::laws::switches_are_made();
-    aeth_invariant::laws::cycles_are_cycles();
+    aeth_routed_sessions::laws::runs_have_routed_sessions();
+    aeth_refinement::laws::switches_are_made();
+    aeth_refinement::laws::cycles_are_cycles();
     aeth_tables::laws::switches();
 }
 
@@ -175,9 +175,9 @@ pub fn networks_carry()
         → flit_on (played 0 (first_network inputs routing)).components.wires l ≡ None }
 {
     networks_run();
-    aeth_fabric::laws::runs_have_fabrics();
-    aeth_fabric::laws::fabrics_carry();
-    aeth_refinement::laws::wires_carry();
+    aeth_routed_sessions::laws::runs_have_routed_sessions();
+    aeth_routed_sessions::laws::routed_sessions_carry();
+    aeth_invariant::laws::wires_carry();
 }
 
 /// The network of accepted inputs loses nothing. In each cycle a flit on a wire that ends at a router
@@ -187,9 +187,9 @@ pub fn networks_carry()
 pub fn networks_lose_nothing()
     ensures passed { (inputs : Inputs) → AreAccepted inputs → (routing : Routing)
         → IsRoutingFor inputs routing → (t : ℕ) → t < inputs.cycles
-        → (m r : ℕ) (flit : Flit) → (fabric_of inputs).end m ≡ AtRouter r
+        → (m r : ℕ) (flit : Flit) → (routed_sessions_of inputs).end m ≡ AtRouter r
         → flit_on (played (t + 1) (first_network inputs routing)).components.wires m ≡ Some flit
-        → IsPassed (fabric_of inputs)
+        → IsPassed (routed_sessions_of inputs)
         (flit_on (played (t + 1) (first_network inputs routing)).components.wires) m r flit }
     ensures read { (inputs : Inputs) → AreAccepted inputs → (routing : Routing)
         → IsRoutingFor inputs routing → (t : ℕ) → t < inputs.cycles
@@ -198,23 +198,27 @@ pub fn networks_lose_nothing()
         → (arrival : Arrival) × (arrival_of (Some flit) ≡ Some arrival) }
     ensures room { (inputs : Inputs) → AreAccepted inputs → (routing : Routing)
         → IsRoutingFor inputs routing → (t : ℕ) → t ≤ inputs.cycles
-        → (c : ℕ) → c < (fabric_of inputs).count → Owns (fabric_of inputs) c t
+        → (c : ℕ) → c < (routed_sessions_of inputs).count → Owns (routed_sessions_of inputs) c t
         → length (queue_of (played t (first_network inputs routing)).components.parts
-        ((fabric_of inputs).passage c).ni ((fabric_of inputs).passage c).queue).received
-        ≤ (server_at (fabric_of inputs) ((fabric_of inputs).opposite c)).buffer }
+        ((routed_sessions_of inputs).routed_session c).ni
+        ((routed_sessions_of inputs).routed_session c).queue).received
+        ≤ (server_at (routed_sessions_of inputs) ((routed_sessions_of inputs).opposite c)).buffer }
     ensures kept { (inputs : Inputs) → AreAccepted inputs → (routing : Routing)
         → IsRoutingFor inputs routing → (t : ℕ) → t ≤ inputs.cycles
-        → (c : ℕ) → c < (fabric_of inputs).count → Owns (fabric_of inputs) c t
-        → let d = (fabric_of inputs).opposite c in
+        → (c : ℕ) → c < (routed_sessions_of inputs).count → Owns (routed_sessions_of inputs) c t
+        → let d = (routed_sessions_of inputs).opposite c in
         (queue_of (played t (first_network inputs routing)).components.parts
-        ((fabric_of inputs).passage c).ni ((fabric_of inputs).passage c).queue).received
-        ≡ words_from (flow_at (fabric_of inputs) d).values (taken (server_at (fabric_of inputs) d) t)
-        (landed (server_at (fabric_of inputs) d) (t + 1) - taken (server_at (fabric_of inputs) d) t) }
+        ((routed_sessions_of inputs).routed_session c).ni
+        ((routed_sessions_of inputs).routed_session c).queue).received
+        ≡ words_from (flow_at (routed_sessions_of inputs) d).values
+        (taken (server_at (routed_sessions_of inputs) d) t)
+        (landed (server_at (routed_sessions_of inputs) d) (t + 1)
+        - taken (server_at (routed_sessions_of inputs) d) t) }
 {
     networks_run();
-    aeth_fabric::laws::runs_have_fabrics();
-    aeth_refinement::laws::no_flit_is_lost();
-    aeth_refinement::laws::queues_fit();
+    aeth_routed_sessions::laws::runs_have_routed_sessions();
+    aeth_invariant::laws::no_flit_is_lost();
+    aeth_invariant::laws::queues_fit();
 }
 
 /// In no cycle does the network of accepted inputs lose anything, by whatever its routers send on. Each flit that came
@@ -227,8 +231,8 @@ pub fn cycles_lose_nothing()
         (played (t + 1) (first_network inputs routing)).components }
 {
     networks_run();
-    aeth_fabric::laws::runs_have_fabrics();
-    aeth_refinement::laws::queues_fit();
+    aeth_routed_sessions::laws::runs_have_routed_sessions();
+    aeth_invariant::laws::queues_fit();
 }
 
 /// The log of the network of accepted inputs is that of their run: each word lands in the cycle in which it
@@ -242,5 +246,5 @@ pub fn networks_log()
     aeth_stimuli::laws::sessions_go();
     aeth_stimuli::laws::sessions_are_apart();
     aeth_accepted::laws::runs_are_sound();
-    aeth_fabric::laws::fabrics_carry();
+    aeth_routed_sessions::laws::routed_sessions_carry();
 }

@@ -2,14 +2,16 @@
 -- than lines: so it stands by the place of this, and by what it has of its own.
 --
 --   no_line, line_at      the line at a place of a use case, and that of a place past all
---   going_at, goings_at      a session by the place of its line, and some of them
+--   session_start_at, session_starts_at      a session by the place of its line, and some of them
 -- This project's own.
 use Rattle.std.proofs.Common.{ℕ, List, [], map}
 use Rattle.std.specs.List.{slice_index_or}
 use Rattle.aeth_base.specs.declared.ids.Side.TheVariants.{Fwd}
-use Rattle.aeth_components.specs.declared.lane.ChannelEnd.{ChannelEnd}
-use Rattle.aeth_schedule.specs.{Lines.end_of, Lines.lines_at, declared.going.Going.Going}
-use Rattle.aeth_schedule.specs.{declared.going.GoingByLine.GoingByLine, declared.lines.Line.Line}
+use Rattle.aeth_components.specs.declared.channel_state.ChannelEnd.{ChannelEnd}
+use Rattle.aeth_schedule.specs.Lines.{end_of, lines_at}
+use Rattle.aeth_schedule.specs.declared.session_start.SessionStart.{SessionStart}
+use Rattle.aeth_schedule.specs.declared.session_start.SessionStartByLine.{SessionStartByLine}
+use Rattle.aeth_schedule.specs.declared.lines.Line.{Line}
 
 -- What a place has that is past all lines.
 abbrev pub no_line : Line
@@ -39,14 +41,14 @@ abbrev pub line_at : List (List Line) → ℕ → ℕ → Line
 line_at all u place = slice_index_or (lines_at all u) place no_line
 
 -- A session of the channel of a line, of which nothing is done.
-abbrev pub going_along : Line → GoingByLine → Going
-going_along line one = record {
+abbrev pub session_start_along : Line → SessionStartByLine → SessionStart
+session_start_along line one = record {
   channel = line.row.channel;
   shape = line.shape;
   until = one.until;
   before = one.before;
   count = one.count;
-  lane = record {
+  channel_state = record {
     sender = end_of line.row;
     receiver = line.receiver;
     go = one.go;
@@ -54,16 +56,16 @@ going_along line one = record {
     first = one.first;
     accepted = 0;
     pull = 0;
-    handed = 0;
+    enqueued = 0;
     landed = 0;
     taken = 0;
   };
 }
 
 -- That of the channel of the line at its place.
-abbrev pub going_at : List (List Line) → GoingByLine → Going
-going_at all one = going_along (line_at all one.use_case.0 one.place) one
+abbrev pub session_start_at : List (List Line) → SessionStartByLine → SessionStart
+session_start_at all one = session_start_along (line_at all one.use_case.0 one.place) one
 
 -- Some of them.
-abbrev pub goings_at : List (List Line) → List GoingByLine → List Going
-goings_at all list = map (going_at all) list
+abbrev pub session_starts_at : List (List Line) → List SessionStartByLine → List SessionStart
+session_starts_at all list = map (session_start_at all) list

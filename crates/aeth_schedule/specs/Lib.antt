@@ -1,5 +1,5 @@
 pub mod ByLine
-pub mod Goings
+pub mod SessionStarts
 pub mod Lines
 pub mod Rooms
 pub mod Schedule

@@ -14,7 +14,7 @@ use Rattle.aeth_server.specs.declared.shape.ChannelShape.{ChannelShape}
 use Rattle.aeth_group.specs.Members.{GroupsData, groups_of, is_kept}
 use Rattle.aeth_ni.specs.declared.row.ChannelRow.{ChannelRow}
 use Rattle.aeth_tables.specs.Tables.{tables_of}
-use Rattle.aeth_components.specs.declared.lane.ChannelEnd.{ChannelEnd}
+use Rattle.aeth_components.specs.declared.channel_state.ChannelEnd.{ChannelEnd}
 use Rattle.aeth_accepted.specs.Inputs.{Inputs}
 use Rattle.aeth_schedule.specs.declared.lines.Line.{Line}
 

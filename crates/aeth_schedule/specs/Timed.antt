@@ -12,7 +12,7 @@ use Rattle.aeth_ni.specs.declared.{row.ChannelRow.ChannelRow, write.Write.Write}
 use Rattle.aeth_report.specs.declared.session.Close.{Close}
 use Rattle.aeth_components.specs.declared.event.Event.{Event}
 use Rattle.aeth_components.specs.declared.event.Event.TheVariants.{Change, Finish, Halt}
-use Rattle.aeth_components.specs.declared.lane.ChannelEnd.{ChannelEnd}
+use Rattle.aeth_components.specs.declared.channel_state.ChannelEnd.{ChannelEnd}
 use Rattle.aeth_schedule.specs.Lines.{end_of}
 use Rattle.aeth_schedule.specs.declared.timed.{Closing.Closing, Closing.TheVariants.Finishes}
 use Rattle.aeth_schedule.specs.declared.timed.{Closing.TheVariants.Halts, Timed.Timed}

@@ -2,7 +2,7 @@
 --
 --   IsCycleOf      a cycle in which a switch does something, by when it stops and writes
 --   window_by, windows_over      the window of a switch, and those of the switches of rows
---   IsWithin      a cycle is one of a window
+--   IsInWindow      a cycle is one of a window
 -- This project's own.
 use Rattle.std.proofs.Common.{◌≡◌, ◌≤◌, ℕ, List, map}
 use Rattle.aeth_trace.specs.{Spans.SpanData, declared.switches.SwitchRow.SwitchRow}
@@ -31,5 +31,5 @@ abbrev pub windows_over : SpanData → List SwitchRow → List Window
 windows_over spans rows = map (window_by spans) (later_switches rows)
 
 -- A cycle is one of a window.
-abbrev pub IsWithin : Window → ℕ → Type 0
-IsWithin window t = IsCycleOf window.until window.stop window.fin window.go t
+abbrev pub IsInWindow : Window → ℕ → Type 0
+IsInWindow window t = IsCycleOf window.until window.stop window.fin window.go t

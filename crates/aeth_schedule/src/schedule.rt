@@ -2,7 +2,7 @@
 
 ghost use Rattle.std.specs.Prelude.{◌≡◌, ◌≤◌, length, slice_range};
 
-use crate::going::{GoingList, Goings};
+use crate::session_start::{SessionStartList, SessionStarts};
 use crate::windows::Window;
 use aeth_components::Event;
 use std::marker::Model;
@@ -14,7 +14,7 @@ pub struct Schedule {
     loaded: Vec<Event>,
     events: Vec<Event>,
     cycles: Vec<u32>,
-    goings: GoingList,
+    session_starts: SessionStartList,
     windows: Vec<Window>,
     rooms: Vec<u32>,
 }
@@ -29,7 +29,7 @@ impl Model for Schedule {
       loaded = schedule.loaded.items;
       events = schedule.events.items;
       cycles = schedule.cycles.items;
-      goings = schedule.goings;
+      session_starts = schedule.session_starts;
       windows = schedule.windows.items;
       rooms = schedule.rooms.items;
     } };
@@ -44,7 +44,7 @@ impl Schedule {
         loaded: Vec<Event>,
         events: Vec<Event>,
         cycles: Vec<u32>,
-        goings: GoingList,
+        session_starts: SessionStartList,
         windows: Vec<Window>,
         rooms: Vec<u32>,
     ) -> Schedule
@@ -53,7 +53,7 @@ impl Schedule {
           loaded = loaded.items;
           events = events.items;
           cycles = cycles.items;
-          goings = goings;
+          session_starts = session_starts;
           windows = windows.items;
           rooms = rooms.items;
         } }
@@ -62,7 +62,7 @@ impl Schedule {
             loaded,
             events,
             cycles,
-            goings,
+            session_starts,
             windows,
             rooms,
         }
@@ -84,10 +84,10 @@ impl Schedule {
     }
 
     /// The sessions in the order in which they go.
-    pub fn goings(&self) -> Goings<'_>
-        ensures { result ≡ self.now.goings }
+    pub fn session_starts(&self) -> SessionStarts<'_>
+        ensures { result ≡ self.now.session_starts }
     {
-        self.goings.all()
+        self.session_starts.all()
     }
 
     /// The windows of all switches, in their order.

@@ -1,5 +1,5 @@
 mod EnteringLemmas
-mod GoingLemmas
+mod SessionStartLemmas
 mod LineLemmas
 mod Places
 mod RoomLemmas

@@ -35,10 +35,10 @@ use Rattle.aeth_scheduling.specs.Made.{timed_over}
 use Rattle.aeth_scheduling.specs.Tasks.{AreSpansFor}
 use Rattle.aeth_scheduling.proofs.LineLemmas.{changed-of, rows-with}
 use Rattle.aeth_schedule.specs.{Lines.all_lines, Lines.lines_at, Lines.lines_of, Rooms.queue_number}
-use Rattle.aeth_schedule.specs.{declared.lines.Line.Line, Goings.goings_behind, Goings.goings_from}
-use Rattle.aeth_schedule.specs.{Windows.windows_over, Values.values_of, Switching.events_by}
-use Rattle.aeth_schedule.specs.{Switching.loaded_of, Switching.switches_from, Switching.timed_of}
-use Rattle.aeth_schedule.specs.{Timed.within}
+use Rattle.aeth_schedule.specs.{declared.lines.Line.Line, SessionStarts.session_starts_behind}
+use Rattle.aeth_schedule.specs.{SessionStarts.session_starts_from, Windows.windows_over}
+use Rattle.aeth_schedule.specs.{Values.values_of, Switching.events_by, Switching.loaded_of}
+use Rattle.aeth_schedule.specs.{Switching.switches_from, Switching.timed_of, Timed.within}
 use Rattle.aeth_schedule.proofs.{LineLemmas.line-at, LineLemmas.lines-all, SwitchRows.rows-known}
 
 -- What is made of a list of rows is the same with other spans, where these are the same as soon as a
@@ -52,14 +52,14 @@ module _ (groups : GroupsData) (spans other : SpanData) (all : List (List Line))
       ap (λ (s : SpanData). timed_over groups s all (first ∷ row ∷ rows) cycles)
       (same (omega arith))
 
-  pub goings-by : (words : List WordRow) (cycles : ℕ) (rows : List SwitchRow)
+  pub session_starts-by : (words : List WordRow) (cycles : ℕ) (rows : List SwitchRow)
       → (2 ≤ length rows → spans ≡ other)
-      → goings_from groups spans all words cycles rows
-      ≡ goings_from groups other all words cycles rows
-  goings-by words cycles [] same = refl
-  goings-by words cycles (first ∷ []) same = refl
-  goings-by words cycles (first ∷ row ∷ rows) same =
-      ap (λ (s : SpanData). goings_from groups s all words cycles (first ∷ row ∷ rows))
+      → session_starts_from groups spans all words cycles rows
+      ≡ session_starts_from groups other all words cycles rows
+  session_starts-by words cycles [] same = refl
+  session_starts-by words cycles (first ∷ []) same = refl
+  session_starts-by words cycles (first ∷ row ∷ rows) same =
+      ap (λ (s : SpanData). session_starts_from groups s all words cycles (first ∷ row ∷ rows))
       (same (omega arith))
 
 -- The greatest is no more than what all are at most.
@@ -96,19 +96,20 @@ module _ (groups : GroupsData) (spans : SpanData) (all other : List (List Line))
       (All-tail HasSame first rows same))
 
   behind-lines : (words : List WordRow) (cycles u : ℕ) (rows : List SwitchRow) → All HasSame rows
-      → goings_behind groups spans all words cycles u rows
-      ≡ goings_behind groups spans other words cycles u rows
+      → session_starts_behind groups spans all words cycles u rows
+      ≡ session_starts_behind groups spans other words cycles u rows
   behind-lines words cycles u [] same = refl
   behind-lines words cycles u (row ∷ rows) same =
       let to = All-head HasSame row rows same in
       let rest = behind-lines words cycles row.to.0 rows (All-tail HasSame row rows same) in
       rw (to, rest) refl
 
-  pub goings-lines : (words : List WordRow) (cycles : ℕ) (rows : List SwitchRow) → All HasSame rows
-      → goings_from groups spans all words cycles rows
-      ≡ goings_from groups spans other words cycles rows
-  goings-lines words cycles [] same = refl
-  goings-lines words cycles (first ∷ rows) same =
+  pub session_starts-lines : (words : List WordRow) (cycles : ℕ) (rows : List SwitchRow)
+      → All HasSame rows
+      → session_starts_from groups spans all words cycles rows
+      ≡ session_starts_from groups spans other words cycles rows
+  session_starts-lines words cycles [] same = refl
+  session_starts-lines words cycles (first ∷ rows) same =
       let to = All-head HasSame first rows same in
       let rest = behind-lines words cycles first.to.0 rows (All-tail HasSame first rows same) in
       rw (to, rest) refl

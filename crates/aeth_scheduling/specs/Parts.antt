@@ -1,7 +1,8 @@
 -- A schedule by its parts.
 -- This project's own.
 use Rattle.std.proofs.Common.{List}
-use Rattle.aeth_schedule.specs.{ByLine.goings_at, Schedule.ScheduleData, declared.lines.Line.Line}
+use Rattle.aeth_schedule.specs.{ByLine.session_starts_at, Schedule.ScheduleData}
+use Rattle.aeth_schedule.specs.{declared.lines.Line.Line}
 use Rattle.aeth_scheduling.specs.declared.schedule.Parts.{Parts}
 
 -- The schedule of these parts, whose sessions are among these lines.
@@ -10,7 +11,7 @@ schedule_with all parts = record {
   loaded = parts.loaded.items;
   events = parts.timed.events.items;
   cycles = parts.timed.cycles.items;
-  goings = goings_at all parts.goings.items;
+  session_starts = session_starts_at all parts.session_starts.items;
   windows = parts.windows.items;
   rooms = parts.rooms.items;
 }

@@ -3,7 +3,7 @@
 ghost use Rattle.std.specs.Prelude.{◌≡◌, ◌<◌, ◌+◌, ◌∷◌, ◌^◌, ◌↔◌, None, All, IsTrue, length};
 ghost use Rattle.aeth_base.specs.Limits.{max_path_delay};
 ghost use Rattle.aeth_report.specs.Flows.{close_at};
-ghost use Rattle.aeth_schedule.specs.Goings.{session_by};
+ghost use Rattle.aeth_schedule.specs.SessionStarts.{session_by};
 ghost use Rattle.aeth_scheduling.specs.Made.{AreRows};
 ghost use Rattle.aeth_scheduling.specs.Staying.{AreEntered, IsKeptThroughout};
 

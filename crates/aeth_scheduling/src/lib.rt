@@ -5,11 +5,11 @@
 mod closing;
 mod durations;
 mod entering;
-mod going;
 mod lines;
 mod placing;
 mod rooms;
 mod schedule;
+mod session_start;
 mod switching;
 mod task;
 mod timed;

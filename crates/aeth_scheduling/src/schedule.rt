@@ -8,17 +8,17 @@ ghost use Rattle.aeth_scheduling.specs.Parts.{schedule_with};
 ghost use Rattle.aeth_scheduling.specs.Tasks.{IsTaskOf};
 
 use crate::durations::spans_for;
-use crate::going::goings_of;
 use crate::lines::lines_with;
 use crate::placing::starts;
 use crate::rooms::rooms_of;
+use crate::session_start::session_starts_of;
 use crate::switching::{TimedEvents, loaded_of, timed_events};
 use crate::task::Task;
 use crate::windows::windows_of;
 use aeth_accepted::RunInputs;
 use aeth_base::{NoMemory, UseId};
 use aeth_components::Event;
-use aeth_schedule::{GoingByLine, GoingList, Lines, Schedule, Window};
+use aeth_schedule::{Lines, Schedule, SessionStartByLine, SessionStartList, Window};
 use aeth_tables::tables;
 use aeth_trace::SwitchRow;
 use std::alloc::Global;
@@ -28,7 +28,7 @@ use std::alloc::Global;
 pub(crate) struct Parts {
     pub loaded: Vec<Event>,
     pub timed: TimedEvents,
-    pub goings: Vec<GoingByLine>,
+    pub session_starts: Vec<SessionStartByLine>,
     pub windows: Vec<Window>,
     pub rooms: Vec<u32>,
 }
@@ -63,7 +63,7 @@ fn made(parts: Parts, lines: Vec<Lines>) -> Schedule
         parts.loaded,
         parts.timed.events,
         parts.timed.cycles,
-        GoingList::of(lines, parts.goings),
+        SessionStartList::of(lines, parts.session_starts),
         parts.windows,
         parts.rooms,
     )
@@ -81,13 +81,13 @@ fn parts_of(alloc: Global, inputs: &RunInputs, task: &Task) -> Result<Parts, NoM
     let rows = inputs.switches().rows();
     let loaded = loaded_of(alloc, task.all, rows)?;
     let timed = timed_events(alloc, task, rows)?;
-    let goings = goings_of(alloc, task, rows)?;
+    let session_starts = session_starts_of(alloc, task, rows)?;
     let windows = windows_of(alloc, task, rows)?;
     let rooms = rooms_of(alloc, inputs)?;
     Ok(Parts {
         loaded,
         timed,
-        goings,
+        session_starts,
         windows,
         rooms,
     })

@@ -2,7 +2,7 @@
 
 ghost use Rattle.std.specs.Prelude.{◌≡◌, ◌≤◌, ◌<◌, ◌+◌, ◌-◌, ◌*◌, IfOk, length};
 ghost use Rattle.aeth_group.specs.Members.{groups_of};
-ghost use Rattle.aeth_components.specs.Turns.{flits_on};
+ghost use Rattle.aeth_components.specs.FlitsOnWires.{flits_on};
 ghost use Rattle.aeth_report.specs.RunLog.{log_of};
 ghost use Rattle.aeth_accepted.specs.Inputs.{AreAccepted, Inputs, inputs_with, run_of};
 ghost use Rattle.aeth_running.specs.Idle.{IsNextBusyOf};
@@ -10,7 +10,7 @@ ghost use Rattle.aeth_running.specs.Lossless.{LosesNothing};
 ghost use Rattle.aeth_running.specs.Network.{first_network, played, stepped};
 ghost use Rattle.aeth_running.specs.Routing.{ByHeaders};
 ghost use Rattle.aeth_running.specs.Quiet.{AreStill, IsNextBusy};
-ghost use Rattle.aeth_running.specs.Told.{told};
+ghost use Rattle.aeth_running.specs.Logged.{logged};
 ghost use Rattle.aeth_network.specs.Carried.{carried_in};
 ghost use Rattle.aeth_network.specs.Runs.{AreWiresOf, IsNetworkOf};
 
@@ -175,7 +175,7 @@ impl Network {
     /// The log of the cycles that are done. Of a network of accepted inputs that has done all their
     /// cycles it is the log of their run.
     pub fn log(self) -> SimLog
-        ensures told { result ≡ told self }
+        ensures logged { result ≡ logged self }
         ensures run { (inputs : Inputs) → IsNetworkOf inputs self → self.time ≡ inputs.cycles
             → result ≡ log_of (run_of inputs) }
     {

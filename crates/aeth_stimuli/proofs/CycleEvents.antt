@@ -1,4 +1,4 @@
--- The events of each cycle of a run are those of the sessions of its fabric.
+-- The events of each cycle of a run are those of the routed sessions.
 use Rattle.std.proofs.Common.{◌≡◌, ◌<◌, ◌∙◌, ◌+◌, ℕ, List, [], ◌∷◌, Some, ap, arith, filter, inl}
 use Rattle.std.proofs.Common.{get_or, inr, map, refl, slice_get, subst, sym, ◌==◌, eq-eqb, eqb-true}
 use Rattle.std.proofs.lemmas.{Bool.cases_Bool, Bool.cases_lt, List.Kept.AllPairs-filter}
@@ -8,8 +8,8 @@ use Rattle.aeth_base.proofs.Members.{Contains-filter, Contains-map, filter-Conta
 use Rattle.aeth_tables.proofs.ListLaws.{has_place, place_in}
 use Rattle.aeth_components.specs.{Switching.Touches, Switching.Writes, declared.event.Event.Event}
 use Rattle.aeth_accepted.{specs.Inputs.AreAccepted, specs.Inputs.Inputs, proofs.SoundRuns.AreSpans}
-use Rattle.aeth_fabric.specs.Fabric.{fabric_of}
-use Rattle.aeth_invariant.specs.Events.{AreEvents, IsEventOf, Occurs}
+use Rattle.aeth_routed_sessions.specs.RoutedSessions.{routed_sessions_of}
+use Rattle.aeth_refinement.specs.Events.{AreEvents, IsEventOf, Occurs}
 use Rattle.aeth_schedule.specs.{Switching.events_at, Switching.timed_of, declared.timed.Timed.Timed}
 use Rattle.aeth_stimuli.specs.{Events.events_in, Stimuli.stimuli_of}
 use Rattle.aeth_stimuli.proofs.EventsOfSessions.{event-is}
@@ -87,7 +87,7 @@ module _ (inputs : Inputs) (accepted : AreAccepted inputs) where
 
   -- An event of a cycle is one of a session.
   only : (t i : ℕ) (event : Event) → slice_get (events_at inputs t) i ≡ Some event
-      → IsEventOf (fabric_of inputs) (t + 1) event
+      → IsEventOf (routed_sessions_of inputs) (t + 1) event
   only t i event at =
       let test = λ (x : Timed). x.cycle == t in
       let (one, same, kept) = map-Contains (λ (x : Timed). x.event) (filter test (timed_of inputs))
@@ -95,8 +95,8 @@ module _ (inputs : Inputs) (accepted : AreAccepted inputs) where
       let (listed, passes) = filter-Contains test (timed_of inputs) one kept in
       let (switch, is_switch, has) = caused inputs accepted one listed in
       let now = eqb-true one.cycle t passes in
-      subst (λ (x : Event). IsEventOf (fabric_of inputs) (t + 1) x) same
-      (subst (λ (k : ℕ). IsEventOf (fabric_of inputs) (k + 1) one.event) now
+      subst (λ (x : Event). IsEventOf (routed_sessions_of inputs) (t + 1) x) same
+      (subst (λ (k : ℕ). IsEventOf (routed_sessions_of inputs) (k + 1) one.event) now
       (event-is inputs accepted switch is_switch one has))
 
   module _ (spans : AreSpans inputs accepted) where
@@ -111,10 +111,10 @@ module _ (inputs : Inputs) (accepted : AreAccepted inputs) where
         (AllPairs-filter Precedes test (timed_of inputs) (timed-precede inputs accepted spans))
 
     pub are-events : (t : ℕ) → t < inputs.cycles
-        → AreEvents (fabric_of inputs) (t + 1) (events_in (stimuli_of inputs) t)
+        → AreEvents (routed_sessions_of inputs) (t + 1) (events_in (stimuli_of inputs) t)
     are-events t early =
         let events = events_at inputs t in
-        let now : AreEvents (fabric_of inputs) (t + 1) (events_at inputs t) = record {
+        let now : AreEvents (routed_sessions_of inputs) (t + 1) (events_at inputs t) = record {
           only = only t;
           halts = λ c known falls. occurs t _ (halts inputs accepted c known t early falls);
           finishes = λ c known falls. occurs t _ (finishes inputs accepted c known t early falls);
@@ -127,5 +127,5 @@ module _ (inputs : Inputs) (accepted : AreAccepted inputs) where
           queue_once = queue-once events (events-apart t);
           slot_once = slot-once events (events-apart t);
         } in
-        subst (λ (list : List Event). AreEvents (fabric_of inputs) (t + 1) list)
+        subst (λ (list : List Event). AreEvents (routed_sessions_of inputs) (t + 1) list)
         (sym (zip-events t (timed_of inputs))) now

@@ -20,10 +20,10 @@ use Rattle.aeth_reconf.proofs.WritePlaces.{of_channel}
 use Rattle.aeth_reconf.proofs.WriteTimes.{clear_at, free_at, route_at, slot_at as set_slot_at}
 use Rattle.aeth_accepted.specs.Inputs.{AreAccepted, Inputs, design_of, row_at, run_of}
 use Rattle.aeth_components.specs.declared.event.Event.{Event}
-use Rattle.aeth_fabric.specs.Fabric.{fabric_of, slot_at}
-use Rattle.aeth_refinement.specs.Switches.{IsEntryAt, finish_of, freed_of as freed_at, halt_of}
-use Rattle.aeth_refinement.specs.Switches.{set_of as set_at}
-use Rattle.aeth_invariant.specs.Events.{IsEventOf, IsWriteOf, OnQueue, OnSlot}
+use Rattle.aeth_routed_sessions.specs.RoutedSessions.{routed_sessions_of, slot_at}
+use Rattle.aeth_invariant.specs.Switches.{IsEntryAt, finish_of, freed_of as freed_at, halt_of}
+use Rattle.aeth_invariant.specs.Switches.{set_of as set_at}
+use Rattle.aeth_refinement.specs.Events.{IsEventOf, IsWriteOf, OnQueue, OnSlot}
 use Rattle.aeth_schedule.specs.Switching.{events_by, later_switches}
 use Rattle.aeth_schedule.specs.declared.timed.Timed.{Timed}
 use Rattle.aeth_stimuli.proofs.OverChips.{rows_known}
@@ -46,7 +46,7 @@ module _ (inputs : Inputs) (accepted : AreAccepted inputs) where
   -- What falls on the queue of a row is of the row's session.
   abbrev pub on-queue : (cycle : ℕ → ℕ) (e c group : ℕ) (channel : Channel) → IsIn inputs c group channel
       → cycle c ≡ e
-      → OnQueue (fabric_of inputs) cycle e (row_at (design_of inputs) group channel).ni
+      → OnQueue (routed_sessions_of inputs) cycle e (row_at (design_of inputs) group channel).ni
       (row_at (design_of inputs) group channel).queue
   on-queue cycle e c group channel is falls =
       let same = row-is inputs c group channel is in
@@ -73,7 +73,7 @@ module _ (inputs : Inputs) (accepted : AreAccepted inputs) where
       ≡ Some x
       → (slot_at (run_of inputs) (listed_at (run_of inputs) c) x ≡ i)
       × (x < inputs.chip.slots)
-      × IsEntryAt (fabric_of inputs)
+      × IsEntryAt (routed_sessions_of inputs)
       (row_at (design_of inputs) (group_at (groups_of inputs.app) u) channel).ni.0 x c
   on-slot u c x i channel has is at =
       let row = row_of (group_at groups u) channel in
@@ -132,7 +132,7 @@ module _ (inputs : Inputs) (accepted : AreAccepted inputs) where
         → t + 1 ≡ clears_from (run_of inputs).spans switch + k
         → IsClosingWrite (groups_of inputs.app) (row_at (design_of inputs)) (run_of inputs).spans switch
         k
-        → IsWriteOf (fabric_of inputs) (t + 1) write
+        → IsWriteOf (routed_sessions_of inputs) (t + 1) write
     closing-write k t write at now closing =
         let channel = closing.channel in
         let row = row_of (group_at groups u) channel in
@@ -155,14 +155,15 @@ module _ (inputs : Inputs) (accepted : AreAccepted inputs) where
               (left-has channel closing.closed) session.is there in
               let freed = with.slot_freed x
               ∙ (λ j. ahead j (place j)) in
-              let slot : OnSlot (fabric_of inputs) (λ passage. passage.slot_freed) (t + 1) row.ni x =
+              let slot : OnSlot (routed_sessions_of inputs)
+              (λ routed_session. routed_session.slot_freed) (t + 1) row.ni x =
               record {
                 session = session.c;
                 at = entry;
                 falls = omega (arith, freed, now, time);
                 within = small;
               } in
-              subst (λ (w : Write). IsWriteOf (fabric_of inputs) (t + 1) w) same slot
+              subst (λ (w : Write). IsWriteOf (routed_sessions_of inputs) (t + 1) w) same slot
           | inr route ↦
               let last : closing.i ≡ length row.slots.slots = omega (arith, inside, route) in
               let free : freed_of groups row_of spans (group_at groups u) channel switch ≡ t + 1 =
@@ -174,9 +175,10 @@ module _ (inputs : Inputs) (accepted : AreAccepted inputs) where
               session.is.group_is in
               let own = ap (λ (ch : Channel).
               freed_of groups row_of spans (group_at groups u) ch switch) session.is.channel_is in
-              let queue = on-queue (freed_at (fabric_of inputs)) (t + 1) session.c (group_at groups u)
+              let queue = on-queue (freed_at (routed_sessions_of inputs)) (t + 1) session.c
+              (group_at groups u)
               channel session.is (with.freed ∙ group ∙ own ∙ free) in
-              subst (λ (w : Write). IsWriteOf (fabric_of inputs) (t + 1) w) same queue
+              subst (λ (w : Write). IsWriteOf (routed_sessions_of inputs) (t + 1) w) same queue
         ]
 
     -- So is one that opens a channel.
@@ -186,7 +188,7 @@ module _ (inputs : Inputs) (accepted : AreAccepted inputs) where
         → t + 1 ≡ clears_from (run_of inputs).spans switch + k
         → IsOpeningWrite (groups_of inputs.app) (row_at (design_of inputs)) (run_of inputs).spans switch
         k
-        → IsWriteOf (fabric_of inputs) (t + 1) write
+        → IsWriteOf (routed_sessions_of inputs) (t + 1) write
     opening-write k t write at now opening =
         let channel = opening.channel in
         let row = row_of (group_at groups v) channel in
@@ -198,21 +200,22 @@ module _ (inputs : Inputs) (accepted : AreAccepted inputs) where
         ap (λ (ch : Channel). set_of groups row_of spans ch (Some switch)) session.is.channel_is in
         let cases : (i : ℕ) → i < length row.slots.slots + 1
         → clears_from spans switch + k ≡ set_of groups row_of spans channel (Some switch) + i
-        → IsWriteOf (fabric_of inputs) (t + 1) write = elim [
+        → IsWriteOf (routed_sessions_of inputs) (t + 1) write = elim [
           | zero ↦ λ inside time.
               let same = same_Some (set_route row) write
               (sym (route_at groups row_of spans switch channel opening.opened k (omega (arith, time)))
               ∙ at) in
               let set = with.set in
               let flow = row-is inputs session.c (group_at groups v) channel session.is in
-              let route : IsWriteOf (fabric_of inputs) (t + 1) (set_route row) = record {
-                on = on-queue (set_at (fabric_of inputs)) (t + 1) session.c (group_at groups v) channel
+              let route : IsWriteOf (routed_sessions_of inputs) (t + 1) (set_route row) = record {
+                on = on-queue (set_at (routed_sessions_of inputs)) (t + 1) session.c
+                    (group_at groups v) channel
                     session.is (omega (arith, set, own, time, now));
                 route_is = sym (ap (λ (r : ChannelRow). r.route) flow);
                 remote_is = sym (ap (λ (r : ChannelRow). r.remote) flow);
                 credits_are = sym (ap (λ (r : ChannelRow). r.credits) flow);
               } in
-              subst (λ (w : Write). IsWriteOf (fabric_of inputs) (t + 1) w) same route
+              subst (λ (w : Write). IsWriteOf (routed_sessions_of inputs) (t + 1) w) same route
           | suc i ↦ λ inside time.
               let x = get_or row.slots.slots i 0 in
               let there = slice_get-get_or row.slots.slots i 0 (omega (arith, inside)) in
@@ -223,7 +226,8 @@ module _ (inputs : Inputs) (accepted : AreAccepted inputs) where
               (entered-has channel opening.opened) session.is there in
               let set = with.slot_set x in
               let flow = row-is inputs session.c (group_at groups v) channel session.is in
-              let slot : IsWriteOf (fabric_of inputs) (t + 1) (SetSlot row.ni x row.queue) = record {
+              let slot : IsWriteOf (routed_sessions_of inputs) (t + 1)
+              (SetSlot row.ni x row.queue) = record {
                 on = record {
                   session = session.c;
                   at = entry;
@@ -232,18 +236,18 @@ module _ (inputs : Inputs) (accepted : AreAccepted inputs) where
                 };
                 queue_is = sym (ap (λ (r : ChannelRow). r.queue) flow);
               } in
-              subst (λ (w : Write). IsWriteOf (fabric_of inputs) (t + 1) w) same slot
+              subst (λ (w : Write). IsWriteOf (routed_sessions_of inputs) (t + 1) w) same slot
         ] in
         cases opening.i opening.inside opening.time
 
     -- Each event of the switch is one of a session.
     pub event-is : (one : Timed) → Contains (events_by inputs switch) one
-        → IsEventOf (fabric_of inputs) (one.cycle + 1) one.event
+        → IsEventOf (routed_sessions_of inputs) (one.cycle + 1) one.event
     event-is one has =
         let close = close_by spans switch in
         let closing = rows_closing groups row_of u v in
         let opening = rows_opening groups row_of u v in
-        let fabric = fabric_of inputs in
+        let sessions = routed_sessions_of inputs in
         let e = one.cycle + 1 in
         elim (event-by close closing opening one has) [
           | IsHalt row is_in time event ↦
@@ -251,29 +255,33 @@ module _ (inputs : Inputs) (accepted : AreAccepted inputs) where
               let session = closing-session channel closed in
               let stop = (closed-with inputs (listed_at (run_of inputs) session.c) switch
               session.closing).stop in
-              let queue = on-queue (halt_of fabric) e session.c (group_at groups u) channel session.is
+              let queue = on-queue (halt_of sessions) e session.c (group_at groups u) channel
+              session.is
               (omega (arith, stop, time)) in
-              subst (λ (x : Event). IsEventOf fabric e x) (sym event)
-              (subst (λ (r : ChannelRow). OnQueue fabric (halt_of fabric) e r.ni r.queue) same queue)
+              subst (λ (x : Event). IsEventOf sessions e x) (sym event)
+              (subst (λ (r : ChannelRow). OnQueue sessions (halt_of sessions) e r.ni r.queue) same
+              queue)
           | IsFinish row is_in time event ↦
               let (channel, closed, same) = row-closed row is_in in
               let session = closing-session channel closed in
               let finish = (closed-with inputs (listed_at (run_of inputs) session.c) switch
               session.closing).finish in
-              let queue = on-queue (finish_of fabric) e session.c (group_at groups u) channel session.is
+              let queue = on-queue (finish_of sessions) e session.c (group_at groups u) channel
+              session.is
               (omega (arith, finish, time)) in
-              subst (λ (x : Event). IsEventOf fabric e x) (sym event)
-              (subst (λ (r : ChannelRow). OnQueue fabric (finish_of fabric) e r.ni r.queue) same queue)
+              subst (λ (x : Event). IsEventOf sessions e x) (sym event)
+              (subst (λ (r : ChannelRow). OnQueue sessions (finish_of sessions) e r.ni r.queue) same
+              queue)
           | IsChange change ↦
               let k = change.k in
               let now = change.cycle_is in
               let program = switch_program groups row_of u v in
               let inside = slice_get_within program k change.write change.at in
               let by = of_channel groups row_of spans switch k inside in
-              let write : IsWriteOf fabric e change.write = elim by [
+              let write : IsWriteOf sessions e change.write = elim by [
                 | inl shuts ↦ closing-write k one.cycle change.write change.at (omega (arith, now)) shuts
                 | inr starts ↦
                     opening-write k one.cycle change.write change.at (omega (arith, now)) starts
               ] in
-              subst (λ (x : Event). IsEventOf fabric e x) (sym change.event_is) write
+              subst (λ (x : Event). IsEventOf sessions e x) (sym change.event_is) write
         ]

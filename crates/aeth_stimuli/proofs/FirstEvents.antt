@@ -1,4 +1,4 @@
--- What is written before the first cycle are the events of a fabric's sessions that fall there.
+-- What is written before the first cycle are the events of routed sessions that fall there.
 use Rattle.std.proofs.Common.{◌≡◌, ◌<◌, ◌∙◌, ℕ, true, List, [], ◌∷◌, Contains, Option, Some, ap}
 use Rattle.std.proofs.Common.{arith, length, map, refl, slice_get, subst, sym, None, Ok}
 use Rattle.std.specs.List.{AllPairs, flat_map}
@@ -22,11 +22,11 @@ use Rattle.aeth_tables.proofs.ListLaws.{has_place, place_in}
 use Rattle.aeth_accepted.specs.Inputs.{AreAccepted, Inputs, design_of, row_at, run_of}
 use Rattle.aeth_accepted.proofs.ApartRows.{all_apart}
 use Rattle.aeth_components.specs.declared.event.Event.{Event, TheVariants.Change}
-use Rattle.aeth_refinement.specs.Fabric.{flow_at, has_slot, server_at}
-use Rattle.aeth_refinement.specs.Switches.{freed_of as freed_at, set_of as set_at}
-use Rattle.aeth_fabric.specs.Fabric.{fabric_of, row_in, slot_at}
-use Rattle.aeth_fabric.proofs.ApartWires.{slot_place}
-use Rattle.aeth_invariant.specs.Events.{AreEvents, IsEventOf, IsWriteOf, Occurs, ni_of}
+use Rattle.aeth_invariant.specs.RoutedSessions.{flow_at, has_slot, server_at}
+use Rattle.aeth_invariant.specs.Switches.{freed_of as freed_at, set_of as set_at}
+use Rattle.aeth_routed_sessions.specs.RoutedSessions.{routed_sessions_of, row_in, slot_at}
+use Rattle.aeth_routed_sessions.proofs.ApartWires.{slot_place}
+use Rattle.aeth_refinement.specs.Events.{AreEvents, IsEventOf, IsWriteOf, Occurs, ni_of}
 use Rattle.aeth_schedule.specs.Switching.{changes, loaded_by, loaded_of}
 use Rattle.aeth_stimuli.proofs.CycleEvents.{queue-once, slot-once}
 use Rattle.aeth_stimuli.proofs.EventsOfSessions.{on-queue, on-slot, slots-ascend}
@@ -96,7 +96,7 @@ module _ (inputs : Inputs) (accepted : AreAccepted inputs) where
       → has_at (groups_of inputs.app) (loaded_use inputs.switches) channel.conn.0 ≡ true
       → (write : Write) → Contains (opening_writes (row_at (design_of inputs)
       (group_at (groups_of inputs.app) (loaded_use inputs.switches)) channel)) write
-      → IsWriteOf (fabric_of inputs) 0 write
+      → IsWriteOf (routed_sessions_of inputs) 0 write
   write-of channel known has write listed =
       let group = group_at groups u in
       let row = row_of group channel in
@@ -105,19 +105,21 @@ module _ (inputs : Inputs) (accepted : AreAccepted inputs) where
       let flow = row-is inputs session.c group channel session.is in
       elim (opening-of row write listed) [
         | IsRoute same ↦
-            let route : IsWriteOf (fabric_of inputs) 0 (set_route row) = record {
-              on = on-queue inputs accepted (set_at (fabric_of inputs)) 0 session.c group channel
+            let route : IsWriteOf (routed_sessions_of inputs) 0 (set_route row) = record {
+              on = on-queue inputs accepted (set_at (routed_sessions_of inputs)) 0 session.c group
+                  channel
                   session.is (ap (set_of groups row_of spans p.channel) session.opening_is);
               route_is = sym (ap (λ (r : ChannelRow). r.route) flow);
               remote_is = sym (ap (λ (r : ChannelRow). r.remote) flow);
               credits_are = sym (ap (λ (r : ChannelRow). r.credits) flow);
             } in
-            subst (λ (w : Write). IsWriteOf (fabric_of inputs) 0 w) same route
+            subst (λ (w : Write). IsWriteOf (routed_sessions_of inputs) 0 w) same route
         | IsSlot x is_in same ↦
             let (i, at) = place_in row.slots.slots x is_in in
             let (place, small, entry) = on-slot inputs accepted u session.c x i channel has session.is at
             in
-            let slot : IsWriteOf (fabric_of inputs) 0 (SetSlot row.ni x row.queue) = record {
+            let slot : IsWriteOf (routed_sessions_of inputs) 0 (SetSlot row.ni x row.queue) =
+            record {
               on = record {
                 session = session.c;
                 at = entry;
@@ -127,18 +129,18 @@ module _ (inputs : Inputs) (accepted : AreAccepted inputs) where
               };
               queue_is = sym (ap (λ (r : ChannelRow). r.queue) flow);
             } in
-            subst (λ (w : Write). IsWriteOf (fabric_of inputs) 0 w) same slot
+            subst (λ (w : Write). IsWriteOf (routed_sessions_of inputs) 0 w) same slot
       ]
 
   only : (i : ℕ) (event : Event) → slice_get (changes writes) i ≡ Some event
-      → IsEventOf (fabric_of inputs) 0 event
+      → IsEventOf (routed_sessions_of inputs) 0 event
   only i event at =
       let (write, same, listed) = map-Contains (λ (w : Write). Change w) writes event
       (has_place (changes writes) i event at) in
       let (row, is_row, own) = flat_map-Contains opening_writes rows write listed in
       let (channel, is, is_in) = map-Contains (row_of (group_at groups u)) channels row is_row in
       let (known, has) = channel-passes groups (has_at groups u) channel is_in in
-      subst (λ (e : Event). IsEventOf (fabric_of inputs) 0 e) same
+      subst (λ (e : Event). IsEventOf (routed_sessions_of inputs) 0 e) same
       (write-of channel known has write
       (subst (λ (r : ChannelRow). Contains (opening_writes r) write) (sym is) own))
 
@@ -162,10 +164,12 @@ module _ (inputs : Inputs) (accepted : AreAccepted inputs) where
     abbrev p : ChannelSession
     p = listed_at (run_of inputs) c
 
-    sets : set_at (fabric_of inputs) c ≡ 0
-        → Occurs (changes writes) (Change (SetRoute (ni_of (fabric_of inputs) c)
-        ((fabric_of inputs).passage c).queue (flow_at (fabric_of inputs) c).route
-        (flow_at (fabric_of inputs) c).remote (server_at (fabric_of inputs) c).buffer))
+    sets : set_at (routed_sessions_of inputs) c ≡ 0
+        → Occurs (changes writes) (Change (SetRoute (ni_of (routed_sessions_of inputs) c)
+        ((routed_sessions_of inputs).routed_session c).queue
+        (flow_at (routed_sessions_of inputs) c).route
+        (flow_at (routed_sessions_of inputs) c).remote
+        (server_at (routed_sessions_of inputs) c).buffer))
     sets falls = elim (opens-by inputs accepted c within) [
       | Loaded opening has same ↦
           let row = row-there inputs accepted c within (group_at groups u) same in
@@ -177,10 +181,10 @@ module _ (inputs : Inputs) (accepted : AreAccepted inputs) where
       | Opened switch is ↦ let set = is.with.set in absurd (omega (arith, set, falls))
     ]
 
-    slots-set : (x : ℕ) → has_slot (fabric_of inputs) c x ≡ true
-        → ((fabric_of inputs).passage c).slot_set x ≡ 0
-        → Occurs (changes writes) (Change (SetSlot (ni_of (fabric_of inputs) c) x
-        ((fabric_of inputs).passage c).queue))
+    slots-set : (x : ℕ) → has_slot (routed_sessions_of inputs) c x ≡ true
+        → ((routed_sessions_of inputs).routed_session c).slot_set x ≡ 0
+        → Occurs (changes writes) (Change (SetSlot (ni_of (routed_sessions_of inputs) c) x
+        ((routed_sessions_of inputs).routed_session c).queue))
     slots-set x uses falls = elim (opens-by inputs accepted c within) [
       | Loaded opening has same ↦
           let row = row-there inputs accepted c within (group_at groups u) same in
@@ -198,14 +202,14 @@ module _ (inputs : Inputs) (accepted : AreAccepted inputs) where
     ]
 
     -- No session is cleared then.
-    not-freed : freed_at (fabric_of inputs) c ≡ 0 → ⊥
+    not-freed : freed_at (routed_sessions_of inputs) c ≡ 0 → ⊥
     not-freed falls = elim (shuts inputs accepted c within) [
       | ByNone closing ↦
           let freed = (late inputs accepted c within closing).freed in omega (arith, freed, falls)
       | BySwitch switch is ↦ let freed = is.with.freed in omega (arith, freed, falls)
     ]
 
-    not-cleared : (x : ℕ) → ((fabric_of inputs).passage c).slot_freed x ≡ 0 → ⊥
+    not-cleared : (x : ℕ) → ((routed_sessions_of inputs).routed_session c).slot_freed x ≡ 0 → ⊥
     not-cleared x falls = elim (shuts inputs accepted c within) [
       | ByNone closing ↦
           let freed = (late inputs accepted c within closing).slot_freed x in omega (arith, freed, falls)
@@ -234,9 +238,9 @@ module _ (inputs : Inputs) (accepted : AreAccepted inputs) where
       (λ one other has_one has_other are. are)
       (openings-apart inputs.chip.slots rows ascend differ)
 
-  pub loaded-are : AreEvents (fabric_of inputs) 0 (loaded_of inputs)
+  pub loaded-are : AreEvents (routed_sessions_of inputs) 0 (loaded_of inputs)
   loaded-are =
-      let now : AreEvents (fabric_of inputs) 0 (changes writes) = record {
+      let now : AreEvents (routed_sessions_of inputs) 0 (changes writes) = record {
         only = only;
         halts = λ c known falls. absurd (omega (arith, falls));
         finishes = λ c known falls. absurd (omega (arith, falls));
@@ -247,5 +251,5 @@ module _ (inputs : Inputs) (accepted : AreAccepted inputs) where
         queue_once = queue-once (changes writes) apart;
         slot_once = slot-once (changes writes) apart;
       } in
-      subst (λ (events : List Event). AreEvents (fabric_of inputs) 0 events)
+      subst (λ (events : List Event). AreEvents (routed_sessions_of inputs) 0 events)
       (loaded-is inputs.switches accepted.switches.first) now

@@ -1,10 +1,10 @@
-pub mod ChipFrames
+pub mod ChipWirings
 pub mod ChipBegins
 pub mod ChannelLists
 pub mod SessionOrder
 mod UseLines
-mod SessionGoings
-mod GoingLists
+mod StartsOfSessions
+mod SessionStartLists
 pub mod WordWindows
 mod ChannelPlaces
 mod WordPlaces

@@ -10,7 +10,7 @@ use Rattle.aeth_ni.specs.{Program.opening_writes, declared.row.ChannelRow.Channe
 use Rattle.aeth_ni.specs.{declared.write.Write.Write, declared.write.Write.TheVariants.SetSlot}
 use Rattle.aeth_reconf.specs.{Rows.Meets, Windows.set_route}
 use Rattle.aeth_components.specs.{Switching.SlotWrite, declared.event.Event.TheVariants.Change}
-use Rattle.aeth_components.specs.{declared.lane.ChannelEnd.ChannelEnd}
+use Rattle.aeth_components.specs.{declared.channel_state.ChannelEnd.ChannelEnd}
 use Rattle.aeth_tables.proofs.ListLaws.{all_has, place_in}
 use Rattle.aeth_stimuli.proofs.Pairs.{pairs-append, pairs-cons, pairs-head, pairs-none, pairs-tail}
 use Rattle.aeth_stimuli.proofs.SwitchOrder.{ArePlacedApart}

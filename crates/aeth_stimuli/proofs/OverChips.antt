@@ -25,9 +25,9 @@ use Rattle.aeth_accepted.specs.Inputs.{AreAccepted, Inputs, design_of, row_at, r
 use Rattle.aeth_accepted.proofs.{GivenGrants.connection-known, GivenGrants.use-known}
 use Rattle.aeth_accepted.proofs.{TableFlows.rows-of_tables, SessionRows.is_row}
 use Rattle.aeth_accepted.proofs.{SessionRows.promised, SoundRuns.greatest-above}
-use Rattle.aeth_refinement.specs.Fabric.{server_at}
-use Rattle.aeth_fabric.specs.Fabric.{fabric_of, row_in, stays_in}
-use Rattle.aeth_fabric.proofs.SessionRows.{numbers}
+use Rattle.aeth_invariant.specs.RoutedSessions.{server_at}
+use Rattle.aeth_routed_sessions.specs.RoutedSessions.{routed_sessions_of, row_in, stays_in}
+use Rattle.aeth_routed_sessions.proofs.SessionRows.{numbers}
 use Rattle.aeth_schedule.specs.Lines.{all_lines, line_with, lines_of, lines_with}
 use Rattle.aeth_schedule.specs.Rooms.{queue_number, room_at, rooms_of}
 use Rattle.aeth_schedule.specs.declared.lines.Line.{Line}
@@ -186,7 +186,7 @@ module _ (inputs : Inputs) (accepted : AreAccepted inputs) where
         stay_is.in_group (numbers inputs accepted stay_is.use_case p.channel stay_is.has)
 
     -- Its queue has room for the buffer of what lands there.
-    roomy : (server_at (fabric_of inputs) (partner_of c)).buffer
+    roomy : (server_at (routed_sessions_of inputs) (partner_of c)).buffer
         ≤ get_or (rooms_at (rooms_of inputs)
         (row_in (run_of inputs) (listed_at (run_of inputs) c)).ni.0)
         (row_in (run_of inputs) (listed_at (run_of inputs) c)).queue 0
@@ -198,7 +198,7 @@ module _ (inputs : Inputs) (accepted : AreAccepted inputs) where
         let rooms = rooms_of inputs in
         let from = row.ni.0 * queues_of_interface in
         let turned = (partner-is run c within).is in
-        let buffer : (server_at (fabric_of inputs) (partner_of c)).buffer
+        let buffer : (server_at (routed_sessions_of inputs) (partner_of c)).buffer
         ≡ (row_at design p.stay.group (opposite p.channel)).credits =
         ap (λ (q : ChannelSession). (row_in run q).credits) turned in
         let room = subst (λ (g : ℕ). (row_at design g (opposite p.channel)).credits
@@ -214,11 +214,11 @@ module _ (inputs : Inputs) (accepted : AreAccepted inputs) where
         ∙ get_or-drop from rooms row.queue 0 ∙ ap (λ (n : ℕ). get_or rooms n 0) place in
         omega (arith, buffer, room, at)
 
-  pub over : IsOver (fabric_of inputs) inputs.chip
+  pub over : IsOver (routed_sessions_of inputs) inputs.chip
   over = record {
     ni = λ c within. (named c within).ni;
     queue = λ c within. (numbered c within).queue;
   }
 
-  pub have_rooms : HaveRooms (fabric_of inputs) (rooms_of inputs)
+  pub have_rooms : HaveRooms (routed_sessions_of inputs) (rooms_of inputs)
   have_rooms = λ c within. roomy c within

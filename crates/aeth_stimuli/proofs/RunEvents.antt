@@ -20,7 +20,7 @@ use Rattle.aeth_reconf.specs.{Rows.RowOf, Rows.channels_that, Windows.AreWritabl
 use Rattle.aeth_accepted.specs.Inputs.{AreAccepted, Inputs, design_of, row_at, run_of}
 use Rattle.aeth_accepted.proofs.{SoundRuns.AreSpans, SoundRuns.is_sound, TableFlows.shape-granted}
 use Rattle.aeth_accepted.proofs.{ApartRows.all_apart, SessionRows.known, SessionRows.one}
-use Rattle.aeth_fabric.proofs.WritableRuns.{writable}
+use Rattle.aeth_routed_sessions.proofs.WritableRuns.{writable}
 use Rattle.aeth_schedule.specs.Switching.{events_by, later_switches, switches_from, timed_of}
 use Rattle.aeth_schedule.specs.declared.timed.Timed.{Timed}
 use Rattle.aeth_stimuli.proofs.Pairs.{Differ, channel-passes, channels-differ, pairs-append}

@@ -21,13 +21,13 @@ use Rattle.aeth_reconf.proofs.WriteTimes.{clear_at, free_at, route_at, slot_at a
 use Rattle.aeth_accepted.specs.Inputs.{AreAccepted, Inputs, design_of, row_at, run_of}
 use Rattle.aeth_components.specs.declared.event.Event.{Event}
 use Rattle.aeth_components.specs.declared.event.Event.TheVariants.{Change, Finish, Halt}
-use Rattle.aeth_refinement.specs.Fabric.{flow_at, has_slot, server_at}
-use Rattle.aeth_refinement.specs.Switches.{finish_of, freed_of as freed_at, halt_of}
-use Rattle.aeth_refinement.specs.Switches.{set_of as set_at}
-use Rattle.aeth_fabric.specs.Fabric.{cleared_by, fabric_of, freed_by, row_in, slot_at}
-use Rattle.aeth_fabric.specs.Fabric.{slot_freed_in, stays_in}
-use Rattle.aeth_fabric.proofs.ApartWires.{past, slot_place}
-use Rattle.aeth_invariant.specs.Events.{ni_of, queue_end}
+use Rattle.aeth_invariant.specs.RoutedSessions.{flow_at, has_slot, server_at}
+use Rattle.aeth_invariant.specs.Switches.{finish_of, freed_of as freed_at, halt_of}
+use Rattle.aeth_invariant.specs.Switches.{set_of as set_at}
+use Rattle.aeth_routed_sessions.specs.RoutedSessions.{cleared_by, routed_sessions_of, freed_by}
+use Rattle.aeth_routed_sessions.specs.RoutedSessions.{row_in, slot_at, slot_freed_in, stays_in}
+use Rattle.aeth_routed_sessions.proofs.ApartWires.{past, slot_place}
+use Rattle.aeth_refinement.specs.Events.{ni_of, queue_end}
 use Rattle.aeth_schedule.specs.{Lines.end_of, Switching.events_by, Switching.later_switches}
 use Rattle.aeth_schedule.specs.{Switching.timed_of, declared.timed.Timed.Timed}
 use Rattle.aeth_stimuli.proofs.OverChips.{stay_is}
@@ -133,24 +133,26 @@ module _ (inputs : Inputs) (accepted : AreAccepted inputs) where
 
     -- A session that no switch closes stops past the end of the run, finishes and is cleared later.
     pub record IsPast : Type 0 where
-      pub stop : inputs.cycles ≤ (server_at (fabric_of inputs) c).stop
-      pub finish : inputs.cycles ≤ (server_at (fabric_of inputs) c).finish
-      pub freed : inputs.cycles < freed_at (fabric_of inputs) c
+      pub stop : inputs.cycles ≤ (server_at (routed_sessions_of inputs) c).stop
+      pub finish : inputs.cycles ≤ (server_at (routed_sessions_of inputs) c).finish
+      pub freed : inputs.cycles < freed_at (routed_sessions_of inputs) c
       pub slot_freed : (x : ℕ) → inputs.cycles < slot_freed_in (run_of inputs)
           (listed_at (run_of inputs) c) x
 
     pub late : (listed_at (run_of inputs) c).stay.closing ≡ None → IsPast
     late closing =
         let run = run_of inputs in
-        let stop : (server_at (fabric_of inputs) c).stop ≡ (past run p).stop =
+        let stop : (server_at (routed_sessions_of inputs) c).stop ≡ (past run p).stop =
         ap (λ (o : Option Switch). (unwrap_or (option_map (close_by run.spans) o) (past run p)).stop)
         closing in
-        let finish : (server_at (fabric_of inputs) c).finish ≡ (past run p).fin =
+        let finish : (server_at (routed_sessions_of inputs) c).finish ≡ (past run p).fin =
         ap (λ (o : Option Switch). (unwrap_or (option_map (close_by run.spans) o) (past run p)).fin)
         closing in
-        let freed : freed_at (fabric_of inputs) c ≡ (server_at (fabric_of inputs) c).finish + 1 =
+        let freed : freed_at (routed_sessions_of inputs) c
+        ≡ (server_at (routed_sessions_of inputs) c).finish + 1 =
         ap (freed_by run p) closing in
-        let cleared : (x : ℕ) → slot_freed_in run p x ≡ (server_at (fabric_of inputs) c).finish + 1 =
+        let cleared : (x : ℕ)
+        → slot_freed_in run p x ≡ (server_at (routed_sessions_of inputs) c).finish + 1 =
         λ x. ap (cleared_by run p (slot_at run p x)) closing in
         record {
           stop = omega (arith, stop);
@@ -190,8 +192,8 @@ module _ (inputs : Inputs) (accepted : AreAccepted inputs) where
           (rows_closing groups row_of switch.leaves switch.row.to.0)
           (rows_opening groups row_of switch.leaves switch.row.to.0) k t write at time) early
 
-      pub halts : halt_of (fabric_of inputs) c ≡ t + 1
-          → HappensAt t (Halt (queue_end (fabric_of inputs) c))
+      pub halts : halt_of (routed_sessions_of inputs) c ≡ t + 1
+          → HappensAt t (Halt (queue_end (routed_sessions_of inputs) c))
       halts falls = elim shuts [
         | ByNone closing ↦ let stop = (late closing).stop in absurd (omega (arith, stop, falls, early))
         | BySwitch switch is ↦
@@ -200,7 +202,7 @@ module _ (inputs : Inputs) (accepted : AreAccepted inputs) where
             let now : close.stop ≡ t = omega (arith, stop, falls) in
             let row = row-there (group_at groups switch.leaves) is.in_group in
             happens inputs accepted switch is.is_switch
-            (record { cycle = t; event = Halt (queue_end (fabric_of inputs) c) })
+            (record { cycle = t; event = Halt (queue_end (routed_sessions_of inputs) c) })
             (subst (λ (one : Timed). Contains (events_by inputs switch) one)
             (λ j. record { cycle = now j; event = Halt (end_of (row j)) })
             (has-halt close (rows_closing groups row_of switch.leaves switch.row.to.0)
@@ -208,8 +210,8 @@ module _ (inputs : Inputs) (accepted : AreAccepted inputs) where
             (row_of (group_at groups switch.leaves) channel) (closing-row switch is))) early
       ]
 
-      pub finishes : finish_of (fabric_of inputs) c ≡ t + 1
-          → HappensAt t (Finish (queue_end (fabric_of inputs) c))
+      pub finishes : finish_of (routed_sessions_of inputs) c ≡ t + 1
+          → HappensAt t (Finish (queue_end (routed_sessions_of inputs) c))
       finishes falls = elim shuts [
         | ByNone closing ↦
             let finish = (late closing).finish in absurd (omega (arith, finish, falls, early))
@@ -219,7 +221,7 @@ module _ (inputs : Inputs) (accepted : AreAccepted inputs) where
             let now : close.fin ≡ t = omega (arith, finish, falls) in
             let row = row-there (group_at groups switch.leaves) is.in_group in
             happens inputs accepted switch is.is_switch
-            (record { cycle = t; event = Finish (queue_end (fabric_of inputs) c) })
+            (record { cycle = t; event = Finish (queue_end (routed_sessions_of inputs) c) })
             (subst (λ (one : Timed). Contains (events_by inputs switch) one)
             (λ j. record { cycle = now j; event = Finish (end_of (row j)) })
             (has-finish close (rows_closing groups row_of switch.leaves switch.row.to.0)
@@ -227,9 +229,9 @@ module _ (inputs : Inputs) (accepted : AreAccepted inputs) where
             (row_of (group_at groups switch.leaves) channel) (closing-row switch is))) early
       ]
 
-      pub frees : freed_at (fabric_of inputs) c ≡ t + 1
-          → HappensAt t (Change (ClearRoute (ni_of (fabric_of inputs) c)
-          ((fabric_of inputs).passage c).queue))
+      pub frees : freed_at (routed_sessions_of inputs) c ≡ t + 1
+          → HappensAt t (Change (ClearRoute (ni_of (routed_sessions_of inputs) c)
+          ((routed_sessions_of inputs).routed_session c).queue))
       frees falls = elim shuts [
         | ByNone closing ↦
             let freed = (late closing).freed in absurd (omega (arith, freed, falls, early))
@@ -247,13 +249,15 @@ module _ (inputs : Inputs) (accepted : AreAccepted inputs) where
             (omega (arith, freed, same, falls)))
       ]
 
-      pub sets : set_at (fabric_of inputs) c ≡ t + 1
-          → HappensAt t (Change (SetRoute (ni_of (fabric_of inputs) c)
-          ((fabric_of inputs).passage c).queue (flow_at (fabric_of inputs) c).route
-          (flow_at (fabric_of inputs) c).remote (server_at (fabric_of inputs) c).buffer))
+      pub sets : set_at (routed_sessions_of inputs) c ≡ t + 1
+          → HappensAt t (Change (SetRoute (ni_of (routed_sessions_of inputs) c)
+          ((routed_sessions_of inputs).routed_session c).queue
+          (flow_at (routed_sessions_of inputs) c).route
+          (flow_at (routed_sessions_of inputs) c).remote
+          (server_at (routed_sessions_of inputs) c).buffer))
       sets falls = elim opens-by [
         | Loaded opening has same ↦
-            let set : set_at (fabric_of inputs) c ≡ 0 =
+            let set : set_at (routed_sessions_of inputs) c ≡ 0 =
             ap (set_of groups row_of spans channel) opening in
             absurd (omega (arith, set, falls))
         | Opened switch is ↦
@@ -270,7 +274,7 @@ module _ (inputs : Inputs) (accepted : AreAccepted inputs) where
 
       -- ---- slots
 
-      module _ (x : ℕ) (own : has_slot (fabric_of inputs) c x ≡ true) where
+      module _ (x : ℕ) (own : has_slot (routed_sessions_of inputs) c x ≡ true) where
         abbrev place : ℕ
         place = slot_at (run_of inputs) (listed_at (run_of inputs) c) x
 
@@ -283,8 +287,8 @@ module _ (inputs : Inputs) (accepted : AreAccepted inputs) where
             ap (λ (r : ChannelRow). slice_get r.slots.slots place) (row-there group same)
             ∙ slot_place (row_in (run_of inputs) p).slots.slots x own
 
-        pub slots_clear : ((fabric_of inputs).passage c).slot_freed x ≡ t + 1
-            → HappensAt t (Change (ClearSlot (ni_of (fabric_of inputs) c) x))
+        pub slots_clear : ((routed_sessions_of inputs).routed_session c).slot_freed x ≡ t + 1
+            → HappensAt t (Change (ClearSlot (ni_of (routed_sessions_of inputs) c) x))
         slots_clear falls = elim shuts [
           | ByNone closing ↦
               let freed = (late closing).slot_freed x in absurd (omega (arith, freed, falls, early))
@@ -300,12 +304,12 @@ module _ (inputs : Inputs) (accepted : AreAccepted inputs) where
               (slot-there group is.in_group) (omega arith)) (omega (arith, freed, falls)))
         ]
 
-        pub slots_set : ((fabric_of inputs).passage c).slot_set x ≡ t + 1
-            → HappensAt t (Change (SetSlot (ni_of (fabric_of inputs) c) x
-            ((fabric_of inputs).passage c).queue))
+        pub slots_set : ((routed_sessions_of inputs).routed_session c).slot_set x ≡ t + 1
+            → HappensAt t (Change (SetSlot (ni_of (routed_sessions_of inputs) c) x
+            ((routed_sessions_of inputs).routed_session c).queue))
         slots_set falls = elim opens-by [
           | Loaded opening has same ↦
-              let set : ((fabric_of inputs).passage c).slot_set x ≡ 0 =
+              let set : ((routed_sessions_of inputs).routed_session c).slot_set x ≡ 0 =
               ap (λ (o : Option Switch). slot_set_of groups row_of spans channel o place) opening in
               absurd (omega (arith, set, falls))
           | Opened switch is ↦

@@ -14,19 +14,20 @@ use Rattle.aeth_trace.proofs.OrderLemmas.{rise-filter}
 use Rattle.aeth_report.specs.Sessions.{Switch}
 use Rattle.aeth_tables.specs.{Promises.HasNumbers, TableText.IsRowOf, Tables.tables_of}
 use Rattle.aeth_tables.proofs.PromiseLaws.{keep_promises}
-use Rattle.aeth_components.specs.{Components.frames_of, Frames.Frame, Frames.frame_of, Lanes.IsEnd}
-use Rattle.aeth_components.specs.{Lanes.IsLane, Making.new_parts}
-use Rattle.aeth_components.specs.{declared.making.RouterKind.TheVariants.ByHeader}
-use Rattle.aeth_components.proofs.{MadeLemmas.length-new_parts, PartLemmas.frames-switched}
+use Rattle.aeth_components.specs.{Components.wirings_of, Wirings.Wiring, Wirings.wiring_of}
+use Rattle.aeth_components.specs.{ChannelStates.IsEnd, ChannelStates.IsChannelState}
+use Rattle.aeth_components.specs.{Making.new_parts, declared.making.RouterKind.TheVariants.ByHeader}
+use Rattle.aeth_components.proofs.{MadeLemmas.length-new_parts, PartLemmas.wirings-switched}
 use Rattle.aeth_accepted.specs.Inputs.{AreAccepted, Inputs}
-use Rattle.aeth_schedule.specs.{Goings.goings_of, Lines.all_lines, Lines.end_of, Lines.lines_at}
-use Rattle.aeth_schedule.specs.{Rooms.rooms_of, Switching.loaded_of, Values.values_of}
-use Rattle.aeth_schedule.specs.{declared.lines.Line.Line}
+use Rattle.aeth_schedule.specs.{SessionStarts.session_starts_of, Lines.all_lines, Lines.end_of}
+use Rattle.aeth_schedule.specs.{Lines.lines_at, Rooms.rooms_of, Switching.loaded_of}
+use Rattle.aeth_schedule.specs.{Values.values_of, declared.lines.Line.Line}
 use Rattle.aeth_schedule.proofs.LineLemmas.{line-at, lines-all}
 use Rattle.aeth_stimuli.specs.Loaded.{loaded_components}
 use Rattle.aeth_stimuli.specs.Stimuli.{Offer, Take, is_offered_in, offer_of, stimuli_of, take_of}
-use Rattle.aeth_stimuli.proofs.{GoingLists.by, GoingLists.goings-all, OfferedWords.offered-few}
-use Rattle.aeth_stimuli.proofs.{OfferedWords.rise-map, WordPlaces.window-placed}
+use Rattle.aeth_stimuli.proofs.SessionStartLists.{by, session_starts-all}
+use Rattle.aeth_stimuli.proofs.OfferedWords.{offered-few, rise-map}
+use Rattle.aeth_stimuli.proofs.WordPlaces.{window-placed}
 
 -- The number of a channel of one of so many connections.
 number-known : (c : ℕ) (side : Side) (connections : ℕ) → c < connections
@@ -43,15 +44,15 @@ module _ (inputs : Inputs) (accepted : AreAccepted inputs) where
   words = length (values_of inputs.words (length inputs.app.connections))
 
   abbrev parts : ℕ
-  parts = length (frames_of (loaded_components inputs))
+  parts = length (wirings_of (loaded_components inputs))
 
   -- The interfaces of the chip are among the components.
   interfaces-first : length inputs.chip.nis ≤ parts
   interfaces-first =
       let made = new_parts inputs.chip ByHeader (rooms_of inputs) in
-      let kept = ap (λ (frames : List Frame). length frames)
-      (frames-switched (loaded_of inputs) made) in
-      let size = length-map made frame_of in
+      let kept = ap (λ (wirings : List Wiring). length wirings)
+      (wirings-switched (loaded_of inputs) made) in
+      let size = length-map made wiring_of in
       let count = length-new_parts inputs.chip (rooms_of inputs) in
       omega (arith, kept, size, count)
 
@@ -60,12 +61,12 @@ module _ (inputs : Inputs) (accepted : AreAccepted inputs) where
   -- A line names a connection, and sends and lands at queues of interfaces.
   pub record Fits (line : Line) : Type 0 where
     pub known : line.row.channel.conn.0 < length inputs.app.connections
-    pub sender : IsEnd (length (frames_of (loaded_components inputs))) (end_of line.row)
-    pub receiver : IsEnd (length (frames_of (loaded_components inputs))) line.receiver
+    pub sender : IsEnd (length (wirings_of (loaded_components inputs))) (end_of line.row)
+    pub receiver : IsEnd (length (wirings_of (loaded_components inputs))) line.receiver
 
   -- A row's queue is one of an interface of the chip.
   end-fits : (row : ChannelRow) → IsRowOf inputs.chip inputs.app row → HasNumbers row
-      → IsEnd (length (frames_of (loaded_components inputs))) (end_of row)
+      → IsEnd (length (wirings_of (loaded_components inputs))) (end_of row)
   end-fits row is numbers =
       let ni = is.ni in
       record { part = omega (arith, ni, interfaces-first); queue = numbers.queue }
@@ -87,58 +88,67 @@ module _ (inputs : Inputs) (accepted : AreAccepted inputs) where
   -- ---- the sessions
 
   -- Each is of a connection of the application.
-  pub goings-known : All (λ going. going.channel.conn.0 < length inputs.app.connections)
-      (goings_of inputs)
-  goings-known = goings-all inputs accepted Fits
-      (λ going. going.channel.conn.0 < length inputs.app.connections) lines-fit
+  pub session_starts-known : All
+      (λ session_start. session_start.channel.conn.0 < length inputs.app.connections)
+      (session_starts_of inputs)
+  session_starts-known = session_starts-all inputs accepted Fits
+      (λ session_start. session_start.channel.conn.0 < length inputs.app.connections) lines-fit
       (λ opening u rows line fits. fits.known)
 
   -- So its channel has a number.
-  pub goings-numbered : All (λ going. channel_number going.channel < 2 * connections)
-      (goings_of inputs)
-  goings-numbered = All-weaker (λ going. going.channel.conn.0 < connections)
-      (λ going. channel_number going.channel < 2 * connections)
-      (λ going known. number-known going.channel.conn.0 going.channel.side connections known)
-      (goings_of inputs) goings-known
+  pub session_starts-numbered : All
+      (λ session_start. channel_number session_start.channel < 2 * connections)
+      (session_starts_of inputs)
+  session_starts-numbered = All-weaker (λ session_start. session_start.channel.conn.0 < connections)
+      (λ session_start. channel_number session_start.channel < 2 * connections)
+      (λ session_start known. number-known session_start.channel.conn.0 session_start.channel.side
+      connections known)
+      (session_starts_of inputs) session_starts-known
 
   -- The session of a line's channel that comes with a use case, as it stands when it goes: nothing of
   -- it is done.
-  lane-fits : (opening : Option Switch) (u : ℕ) (rows : List SwitchRow) (line : Line) → Fits line
-      → IsLane words parts (by inputs accepted opening u rows line).lane
-  lane-fits opening u rows line fits =
-      let going = by inputs accepted opening u rows line in
+  channel_state-fits : (opening : Option Switch) (u : ℕ) (rows : List SwitchRow) (line : Line)
+      → Fits line
+      → IsChannelState words parts (by inputs accepted opening u rows line).channel_state
+  channel_state-fits opening u rows line fits =
+      let session_start = by inputs accepted opening u rows line in
       let placed = window-placed inputs.words connections line.row.channel fits.known
-      going.lane.go going.until in
+      session_start.channel_state.go session_start.until in
       record {
         sender = fits.sender;
         receiver = fits.receiver;
         taken = omega arith;
         landed = omega arith;
-        handed = omega arith;
+        enqueued = omega arith;
         within = omega (arith, placed);
       }
 
   -- It has room for the words that it accepts within the run.
   room-fits : (opening : Option Switch) (u : ℕ) (rows : List SwitchRow) (line : Line) → Fits line
-      → (by inputs accepted opening u rows line).lane.first
+      → (by inputs accepted opening u rows line).channel_state.first
       + count_by (is_offered_in (by inputs accepted opening u rows line)) (stimuli_of inputs).offers
       ≤ words
   room-fits opening u rows line fits =
-      let going = by inputs accepted opening u rows line in
+      let session_start = by inputs accepted opening u rows line in
       let placed = window-placed inputs.words connections line.row.channel fits.known
-      going.lane.go going.until in
-      let few = offered-few going inputs.cycles inputs.words in
+      session_start.channel_state.go session_start.until in
+      let few = offered-few session_start inputs.cycles inputs.words in
       omega (arith, placed, few)
 
-  pub goings-lanes : All (λ going. IsLane words parts going.lane) (goings_of inputs)
-  goings-lanes = goings-all inputs accepted Fits (λ going. IsLane words parts going.lane) lines-fit
-      lane-fits
+  pub session_starts-channel_states : All
+      (λ session_start. IsChannelState words parts session_start.channel_state)
+      (session_starts_of inputs)
+  session_starts-channel_states =
+      session_starts-all inputs accepted Fits
+      (λ session_start. IsChannelState words parts session_start.channel_state) lines-fit
+      channel_state-fits
 
-  pub goings-room : All (λ going. going.lane.first
-      + count_by (is_offered_in going) (stimuli_of inputs).offers ≤ words) (goings_of inputs)
-  goings-room = goings-all inputs accepted Fits
-      (λ going. going.lane.first
-      + count_by (is_offered_in going) (stimuli_of inputs).offers ≤ words) lines-fit
+  pub session_starts-room : All (λ session_start. session_start.channel_state.first
+      + count_by (is_offered_in session_start) (stimuli_of inputs).offers ≤ words)
+      (session_starts_of inputs)
+  session_starts-room = session_starts-all inputs accepted Fits
+      (λ session_start. session_start.channel_state.first
+      + count_by (is_offered_in session_start) (stimuli_of inputs).offers ≤ words) lines-fit
       room-fits
 
   -- ---- the rows of traces

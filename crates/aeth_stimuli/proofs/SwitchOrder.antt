@@ -19,7 +19,7 @@ use Rattle.aeth_reconf.proofs.WriteCounts.{length-writes}
 use Rattle.aeth_components.specs.Switching.{Touches, Writes}
 use Rattle.aeth_components.specs.declared.event.Event.{Event}
 use Rattle.aeth_components.specs.declared.event.Event.TheVariants.{Change, Finish, Halt}
-use Rattle.aeth_components.specs.declared.lane.ChannelEnd.{ChannelEnd}
+use Rattle.aeth_components.specs.declared.channel_state.ChannelEnd.{ChannelEnd}
 use Rattle.aeth_schedule.specs.{Lines.end_of, Timed.events_with, Timed.finishes_at, Timed.halts_at}
 use Rattle.aeth_schedule.specs.{Timed.writes_from, declared.timed.Timed.Timed}
 use Rattle.aeth_stimuli.proofs.Pairs.{pairs-append, pairs-cons, pairs-map, pairs-none}

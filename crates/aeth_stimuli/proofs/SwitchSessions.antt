@@ -15,9 +15,10 @@ use Rattle.aeth_reconf.specs.Rows.{RowOf}
 use Rattle.aeth_reconf.specs.Windows.{IsClosed, IsOpened, cleared_of, freed_of, set_of, slot_set_of}
 use Rattle.aeth_tables.proofs.ListLaws.{place_in}
 use Rattle.aeth_accepted.specs.Inputs.{Inputs, design_of, row_at, run_of}
-use Rattle.aeth_fabric.specs.Fabric.{cleared_by, flow_in, freed_by, freed_in, row_in, slot_at}
-use Rattle.aeth_fabric.specs.Fabric.{slot_freed_in, slot_set_in, stays_in}
-use Rattle.aeth_fabric.proofs.ApartWires.{past}
+use Rattle.aeth_routed_sessions.specs.RoutedSessions.{cleared_by, flow_in, freed_by, freed_in}
+use Rattle.aeth_routed_sessions.specs.RoutedSessions.{row_in, slot_at, slot_freed_in, slot_set_in}
+use Rattle.aeth_routed_sessions.specs.RoutedSessions.{stays_in}
+use Rattle.aeth_routed_sessions.proofs.ApartWires.{past}
 use Rattle.aeth_schedule.specs.Switching.{later_switches}
 use Rattle.aeth_stimuli.proofs.StaySwitches.{closed-stay, opened-stay}
 

@@ -12,7 +12,7 @@ use Rattle.aeth_report.specs.{Channels.channels_with, Channels.opposite, Design.
 use Rattle.aeth_report.specs.{Sessions.opens}
 use Rattle.aeth_reconf.specs.Rows.{channels_that}
 use Rattle.aeth_tables.specs.Tables.{tables_of}
-use Rattle.aeth_components.specs.declared.lane.ChannelEnd.{ChannelEnd}
+use Rattle.aeth_components.specs.declared.channel_state.ChannelEnd.{ChannelEnd}
 use Rattle.aeth_accepted.specs.Inputs.{AreAccepted, Inputs, design_of, row_at}
 use Rattle.aeth_accepted.proofs.TableFlows.{rows-of_tables, shapes-of_tables}
 use Rattle.aeth_schedule.specs.Lines.{all_lines, changed_lines, end_of, lines_at, lines_with}

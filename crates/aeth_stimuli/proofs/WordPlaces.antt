@@ -13,11 +13,12 @@ use Rattle.aeth_report.specs.Flows.{close_at, is_within}
 use Rattle.aeth_report.specs.Sessions.{Switch, close_by, go_of}
 use Rattle.aeth_report.specs.SessionList.{ChannelSession, session_list, listed_at, place_at}
 use Rattle.aeth_report.proofs.SessionNumbers.{IsListedAt, listed-there, one_number}
-use Rattle.aeth_refinement.specs.{Carried.words_from, Fabric.flow_at}
+use Rattle.aeth_invariant.specs.{Carried.words_from, RoutedSessions.flow_at}
 use Rattle.aeth_accepted.specs.Inputs.{AreAccepted, Inputs, run_of}
-use Rattle.aeth_fabric.specs.Fabric.{ended, fabric_of, session_in, stays_in}
+use Rattle.aeth_routed_sessions.specs.RoutedSessions.{ended, routed_sessions_of, session_in}
+use Rattle.aeth_routed_sessions.specs.RoutedSessions.{stays_in}
 use Rattle.aeth_schedule.specs.Values.{before_of, start_of, values_of, values_on}
-use Rattle.aeth_invariant.specs.Places.{ArePlaced}
+use Rattle.aeth_refinement.specs.Places.{ArePlaced}
 use Rattle.aeth_stimuli.specs.Sessions.{first_of}
 use Rattle.aeth_stimuli.proofs.ChannelPlaces.{places-apart, stands-among}
 use Rattle.aeth_stimuli.proofs.SessionOrder.{stays-ordered}
@@ -96,17 +97,18 @@ module _ (inputs : Inputs) (accepted : AreAccepted inputs) where
       omega (arith, known, count)
 
   -- What stands from its first word on are the values of its words.
-  pub values-placed : (c : ℕ) → c < (fabric_of inputs).count
+  pub values-placed : (c : ℕ) → c < (routed_sessions_of inputs).count
       → words_from (values_of inputs.words (length inputs.app.connections)) (first_of inputs c)
-      (length (flow_at (fabric_of inputs) c).values) ≡ (flow_at (fabric_of inputs) c).values
+      (length (flow_at (routed_sessions_of inputs) c).values)
+      ≡ (flow_at (routed_sessions_of inputs) c).values
   values-placed c within =
       let p = listed_at (run_of inputs) c in
       window-values inputs.words (length inputs.app.connections) p.channel (known-at c within)
       (go_of (run_of inputs).spans p.stay.opening) (until_of p) accepted.words.order
 
   -- They are within those of all.
-  placed-within : (c : ℕ) → c < (fabric_of inputs).count
-      → first_of inputs c + length (flow_at (fabric_of inputs) c).values
+  placed-within : (c : ℕ) → c < (routed_sessions_of inputs).count
+      → first_of inputs c + length (flow_at (routed_sessions_of inputs) c).values
       ≤ length (values_of inputs.words (length inputs.app.connections))
   placed-within c within =
       let p = listed_at (run_of inputs) c in
@@ -118,7 +120,7 @@ module _ (inputs : Inputs) (accepted : AreAccepted inputs) where
       omega (arith, fits, len)
 
   -- The place of a word among those of its channel.
-  place-on : (c i : ℕ) → i < length (flow_at (fabric_of inputs) c).values
+  place-on : (c i : ℕ) → i < length (flow_at (routed_sessions_of inputs) c).values
       → before_of inputs.words (listed_at (run_of inputs) c).channel
       (go_of (run_of inputs).spans (listed_at (run_of inputs) c).stay.opening) + i
       < length (words_on inputs.words (listed_at (run_of inputs) c).channel)
@@ -147,7 +149,7 @@ module _ (inputs : Inputs) (accepted : AreAccepted inputs) where
       → d < length (session_list (run_of inputs))
       → (listed_at (run_of inputs) c).channel ≡ (listed_at (run_of inputs) d).channel
       → place_at (run_of inputs) c < place_at (run_of inputs) d
-      → i < length (flow_at (fabric_of inputs) c).values
+      → i < length (flow_at (routed_sessions_of inputs) c).values
       → first_of inputs c + i ≡ first_of inputs d + j → ⊥
   earlier-words c d i j known_c known_d same less below_count equal =
       let spans = (run_of inputs).spans in
@@ -179,9 +181,10 @@ module _ (inputs : Inputs) (accepted : AreAccepted inputs) where
       omega (arith, below_count, equal, len, more, one, two, other)
 
   -- A place is one of one session's words alone.
-  placed-once : (c d i j : ℕ) → c < (fabric_of inputs).count → d < (fabric_of inputs).count
-      → i < length (flow_at (fabric_of inputs) c).values
-      → j < length (flow_at (fabric_of inputs) d).values
+  placed-once : (c d i j : ℕ) → c < (routed_sessions_of inputs).count
+      → d < (routed_sessions_of inputs).count
+      → i < length (flow_at (routed_sessions_of inputs) c).values
+      → j < length (flow_at (routed_sessions_of inputs) d).values
       → first_of inputs c + i ≡ first_of inputs d + j → c ≡ d
   placed-once c d i j known_c known_d first second equal =
       let p = listed_at (run_of inputs) c in
@@ -203,6 +206,6 @@ module _ (inputs : Inputs) (accepted : AreAccepted inputs) where
       ]
 
   -- So the words of sessions are placed.
-  pub words-placed : ArePlaced (fabric_of inputs) (first_of inputs)
+  pub words-placed : ArePlaced (routed_sessions_of inputs) (first_of inputs)
       (length (values_of inputs.words (length inputs.app.connections)))
   words-placed = record { within = placed-within; once = placed-once }

@@ -3,7 +3,7 @@
 --   Offer, Take, Stimuli      a word that is offered, how a receiver takes words, and all that is given
 --   offer_of, take_of      the rows of traces as such
 --   stimuli_of      what accepted inputs give
---   is_over, goings_over      a session of a channel, and all of them
+--   is_over, session_starts_over      a session of a channel, and all of them
 --   is_offered_in      a word that a session accepts
 --   AreStimuli      what holds of them all
 -- This project's own.
@@ -12,10 +12,10 @@ use Rattle.std.proofs.Common.{length, map, nat_le, nat_lt}
 use Rattle.std.specs.List.Sorted.{IsNonDecreasing, IsNonDecreasingBy}
 use Rattle.aeth_trace.specs.Channels.{channel_number}
 use Rattle.aeth_trace.specs.declared.{receivers.PullRow.PullRow, words.WordRow.WordRow}
-use Rattle.aeth_components.specs.{Events.IsDoable, Frames.Frame, Lanes.IsLane}
+use Rattle.aeth_components.specs.{Events.IsDoable, Wirings.Wiring, ChannelStates.IsChannelState}
 use Rattle.aeth_accepted.specs.Inputs.{Inputs}
 use Rattle.aeth_schedule.specs.Schedule.{ScheduleData, schedule_of}
-use Rattle.aeth_schedule.specs.declared.going.Going.{Going}
+use Rattle.aeth_schedule.specs.declared.session_start.SessionStart.{SessionStart}
 
 -- A word is offered to the channel of a number in a cycle.
 pub record Offer : Type 0 where
@@ -50,31 +50,38 @@ stimuli_of inputs = record {
 }
 
 -- Whether a session goes over the channel of a number.
-abbrev pub is_over : ℕ → Going → Bool
-is_over number going = channel_number going.channel == number
+abbrev pub is_over : ℕ → SessionStart → Bool
+is_over number session_start = channel_number session_start.channel == number
 
 -- The sessions of the channel of a number.
-abbrev pub goings_over : ℕ → List Going → List Going
-goings_over number goings = filter (is_over number) goings
+abbrev pub session_starts_over : ℕ → List SessionStart → List SessionStart
+session_starts_over number session_starts = filter (is_over number) session_starts
 
 -- Whether a session accepts an offered word.
-abbrev pub is_offered_in : Going → Offer → Bool
-is_offered_in going offer =
-    is_over offer.number going && (nat_le going.lane.go offer.cycle && nat_lt offer.cycle going.until)
+abbrev pub is_offered_in : SessionStart → Offer → Bool
+is_offered_in session_start offer =
+    is_over offer.number session_start
+    && (nat_le session_start.channel_state.go offer.cycle && nat_lt offer.cycle session_start.until)
 
--- Stimuli for so many channels, with so many words in all, of components with these frames: all in
--- the order of cycles; each event is one that they can do; each session has its two queues, and room
--- for the words that it accepts.
-pub record AreStimuli (channels words : ℕ) (frames : List Frame) (all : Stimuli) : Type 0 where
-  pub loaded : All (IsDoable frames) all.schedule.loaded
-  pub events : All (IsDoable frames) all.schedule.events
+-- Stimuli for so many channels, with so many words in all, of components with these wirings: all in
+-- the order of cycles; each event is one that they can do; each session has its two queues, and
+-- room for the words that it accepts.
+pub record AreStimuli (channels words : ℕ) (wirings : List Wiring) (all : Stimuli) : Type 0 where
+  pub loaded : All (IsDoable wirings) all.schedule.loaded
+  pub events : All (IsDoable wirings) all.schedule.events
   pub event_cycles : length all.schedule.cycles ≡ length all.schedule.events
   pub event_order : IsNonDecreasing all.schedule.cycles
-  pub goings : All (λ going. channel_number going.channel < channels) all.schedule.goings
-  pub going_order : IsNonDecreasingBy (λ going. going.lane.go) all.schedule.goings
-  pub lanes : All (λ going. IsLane words (length frames) going.lane) all.schedule.goings
-  pub room : All (λ going. going.lane.first + count_by (is_offered_in going) all.offers ≤ words)
-      all.schedule.goings
+  pub session_starts : All (λ session_start. channel_number session_start.channel < channels)
+      all.schedule.session_starts
+  pub session_start_order : IsNonDecreasingBy (λ session_start. session_start.channel_state.go)
+      all.schedule.session_starts
+  pub channel_states : All
+      (λ session_start. IsChannelState words (length wirings) session_start.channel_state)
+      all.schedule.session_starts
+  pub room : All
+      (λ session_start. session_start.channel_state.first
+      + count_by (is_offered_in session_start) all.offers ≤ words)
+      all.schedule.session_starts
   pub offers : All (λ offer. offer.number < channels) all.offers
   pub offer_order : IsNonDecreasingBy (λ offer. offer.cycle) all.offers
   pub takes : All (λ take. take.number < channels) all.takes

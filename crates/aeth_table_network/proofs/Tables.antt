@@ -7,13 +7,13 @@ use Rattle.aeth_base.{proofs.Members.Contains-slice_get, specs.declared.ids.Rout
 use Rattle.aeth_router.specs.{Rows.AreRowsFor, TableRouter.new_table_router}
 use Rattle.aeth_router.specs.{declared.router_row.RouterRow.RouterRow}
 use Rattle.aeth_report.specs.Sessions.{Switch, close_by, go_by}
-use Rattle.aeth_refinement.specs.Tables.{AreEntries}
+use Rattle.aeth_invariant.specs.Tables.{AreEntries}
 use Rattle.aeth_tables.proofs.ListLaws.{all_from_places, all_has, has_place}
 use Rattle.aeth_group.proofs.ListLemmas.{any_from_passes}
 use Rattle.aeth_scheduling.specs.Entered.{is_entered}
 use Rattle.aeth_trace.specs.declared.switches.SwitchRow.{SwitchRow}
 use Rattle.aeth_accepted.specs.Inputs.{AreAccepted, Inputs, run_of}
-use Rattle.aeth_fabric.specs.Fabric.{fabric_of}
+use Rattle.aeth_routed_sessions.specs.RoutedSessions.{routed_sessions_of}
 use Rattle.aeth_rtable.specs.{InForce.rows_in_force, Sending.from_rows}
 use Rattle.aeth_running.specs.Routing.{AreRowsOn, ByTables, Entering, IsRoutingFor, IsSwitched}
 use Rattle.aeth_running.specs.Routing.{rows_at}
@@ -29,7 +29,8 @@ module _ (inputs : Inputs) (accepted : AreAccepted inputs)
     → AreRowsFor (rows_of_use inputs u) (new_table_router router inputs.chip))
     (in-force : (t : ℕ) → rows_at (tables_of inputs) t ≡ rows_in_force inputs t)
     (route : (t : ℕ) → t < inputs.cycles
-    → AreEntries (fabric_of inputs) t (from_rows inputs.chip (rows_in_force inputs t) t)) where
+    → AreEntries (routed_sessions_of inputs) t
+    (from_rows inputs.chip (rows_in_force inputs t) t)) where
   -- Rows enter as a switch has drained.
   switched : (switch : Switch) → Contains (later_switches inputs.switches) switch
       → IsSwitched inputs (tables_of inputs)
@@ -59,7 +60,8 @@ module _ (inputs : Inputs) (accepted : AreAccepted inputs)
             (entering_of (rows_of_use inputs) (entered_by spans switch))) (later_switches rows)
             (λ number switch at. switched switch
             (Contains-slice_get (later_switches rows) number switch at))));
-        entries = λ t early. subst (λ (list : List RouterRow). AreEntries (fabric_of inputs) t
+        entries = λ t early. subst
+            (λ (list : List RouterRow). AreEntries (routed_sessions_of inputs) t
             (from_rows inputs.chip list t)) (sym (in-force t)) (route t early);
       }
 

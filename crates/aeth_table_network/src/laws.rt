@@ -9,7 +9,7 @@ ghost use Rattle.aeth_accepted.specs.Inputs.{AreAccepted, Inputs};
 ghost use Rattle.aeth_rtable.specs.InForce.{rows_in_force};
 ghost use Rattle.aeth_running.specs.Network.{first_network, played};
 ghost use Rattle.aeth_running.specs.Routing.{ByHeaders, IsRoutingFor, rows_at};
-ghost use Rattle.aeth_running.specs.Told.{network_log};
+ghost use Rattle.aeth_running.specs.Logged.{network_log};
 ghost use Rattle.aeth_table_network.specs.Tables.{tables_of};
 
 /// In each cycle the rows that are in the tables of a run's routers are those of the use case in force.

@@ -4,7 +4,7 @@ ghost use Rattle.std.specs.Prelude.{◌-◌, length};
 ghost use Rattle.aeth_accepted.specs.Inputs.{run_of};
 ghost use Rattle.aeth_report.specs.RunLog.{log_of};
 ghost use Rattle.aeth_running.specs.Network.{played};
-ghost use Rattle.aeth_running.specs.Told.{told};
+ghost use Rattle.aeth_running.specs.Logged.{logged};
 
 use crate::laws;
 use crate::network::{TableNetwork, simulate_tables};
@@ -22,7 +22,7 @@ use std::alloc::Global;
 impl Machine for TableNetwork {
     ghost outcome = { λ inputs. log_of (run_of inputs) };
 
-    ghost plays = { λ m. told (played (m.log.cycles - m.time) m) };
+    ghost plays = { λ m. logged (played (m.log.cycles - m.time) m) };
 
     ghost left = { λ m. m.log.cycles - m.time };
 

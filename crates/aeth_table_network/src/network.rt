@@ -6,7 +6,7 @@ ghost use Rattle.aeth_report.specs.RunLog.{log_of};
 ghost use Rattle.aeth_accepted.specs.Inputs.{AreAccepted, Inputs, inputs_with, run_of};
 ghost use Rattle.aeth_running.specs.Lossless.{LosesNothing};
 ghost use Rattle.aeth_running.specs.Network.{first_network, played, stepped};
-ghost use Rattle.aeth_running.specs.Told.{told};
+ghost use Rattle.aeth_running.specs.Logged.{logged};
 ghost use Rattle.aeth_network.specs.Runs.{AreWiresOf, IsNetworkOf};
 ghost use Rattle.aeth_table_network.specs.Tables.{tables_of};
 
@@ -132,7 +132,7 @@ impl TableNetwork {
     /// The log of the cycles that are done. Of a network of accepted inputs that has done all their
     /// cycles it is the log of their run.
     pub fn log(self) -> SimLog
-        ensures told { result ≡ told self }
+        ensures logged { result ≡ logged self }
         ensures run { (inputs : Inputs) → IsNetworkOf inputs self → self.time ≡ inputs.cycles
             → result ≡ log_of (run_of inputs) }
     {

@@ -1,7 +1,7 @@
 use Rattle.std.proofs.Common.{◌≡◌, ◌≤◌, ◌+◌, ℕ, length, take}
 use Rattle.aeth_clocked.specs.Wires.{used_from}
 use Rattle.aeth_components.proofs.LookUpLemmas.{HasCome, looked_up_from}
-use Rattle.aeth_components.specs.Turns.{flits_on}
+use Rattle.aeth_components.specs.FlitsOnWires.{flits_on}
 use Rattle.aeth_components.proofs.driving.look_up.Given as goal
 
 -- Tables were looked up for the wires so far, and else there is what was passed on before.

@@ -2,14 +2,14 @@ use Rattle.std.proofs.Common.{◌≡◌, ◌<◌, ◌+◌, ◌%◌, ◌∙◌, a
 use Rattle.std.proofs.Common.{slice_get, sym}
 use Rattle.std.proofs.lemmas.Option.{same_Some, slice_get-get_or}
 use Rattle.aeth_router.specs.{Part.after_of, declared.part.Part.Part}
-use Rattle.aeth_components.specs.{Injecting.AreInjecting, Turns.sends_own}
+use Rattle.aeth_components.specs.{Injecting.AreInjecting, FlitsOnWires.sends_own}
 use Rattle.aeth_components.proofs.AskedLemmas.{slot-own, slot-within}
 use Rattle.aeth_components.proofs.InjectLemmas.{InjectedTo, InjectedTo-first, InjectedTo-more}
 use Rattle.aeth_components.proofs.InjectLemmas.{InjectedTo-parts, InjectedTo-passed}
 use Rattle.aeth_components.proofs.InjectLemmas.{InjectedTo-until, InjectedTo-wires}
-use Rattle.aeth_components.proofs.InjectLemmas.{InjectedTo-woken}
+use Rattle.aeth_components.proofs.InjectLemmas.{InjectedTo-marked_active}
 use Rattle.aeth_components.proofs.OwnLemmas.{output-below}
-use Rattle.aeth_components.proofs.WokenLemmas.{AreInjecting-driven, AreInjecting-rested}
+use Rattle.aeth_components.proofs.MarkedActiveLemmas.{AreInjecting-driven, AreInjecting-rested}
 use Rattle.aeth_components.proofs.injecting.inject.Goals.{After-next-number-in-numbers}
 use Rattle.aeth_components.proofs.injecting.inject.Goals.{After-index-parts-number}
 use Rattle.aeth_components.proofs.injecting.inject.Goals.{After-index-parts-number-in-numbers}
@@ -25,7 +25,7 @@ numbers-init g c =
     let next = c.next-number.ensures in
     record {
       injected = InjectedTo-passed
-          (InjectedTo-first c.args.cycle c.args.parts.now c.args.wires.now c.args.handing.now
+          (InjectedTo-first c.args.cycle c.args.parts.now c.args.wires.now c.args.enqueuing.now
           c.args.steps.now c.requires.waiting)
           c.args.injecting.now c.requires.injecting c.slot-slot.result c.next-number.result
           c.slot-slot.ensures next.from next.none;
@@ -79,8 +79,9 @@ drive-requires g c = λ wire is.
 
 -- It drives what it sends, or sends nothing.
 stepped : (g : given.Over) (c : goal.After-index-parts-number-in-numbers g)
-    → InjectedTo c.args.cycle c.args.parts.now c.args.wires.now c.args.handing.now c.args.steps.now
-    (c.numbers.number + 1) c.if-sends_in.parts c.if-sends_in.wires c.if-sends_in.handing
+    → InjectedTo c.args.cycle c.args.parts.now c.args.wires.now c.args.enqueuing.now
+    c.args.steps.now
+    (c.numbers.number + 1) c.if-sends_in.parts c.if-sends_in.wires c.if-sends_in.enqueuing
     c.if-sends_in.steps
 stepped g c =
     let number = c.numbers.number in
@@ -92,13 +93,13 @@ stepped g c =
       | then-sends_in w ↦
           let default = w.index-parts-number-then-sends_in.result in
           let part = get_or c.numbers.parts number default in
-          rw (w.parts-is, w.wires-is, w.handing-is, w.steps-is) (InjectedTo-more injected
+          rw (w.parts-is, w.wires-is, w.enqueuing-is, w.steps-is) (InjectedTo-more injected
           c.requires.wired (before ∙ there g index default)
           (asked g asks part (there g index default) ∙ w.if-sends_in.true)
           (w.drive.ensures.after ∙ ap (after_of part) w.from.ensures)
-          (rw w.from.ensures at w.drive.ensures.wires) w.wake.ensures w.tick.ensures)
+          (rw w.from.ensures at w.drive.ensures.wires) w.mark_active.ensures w.tick.ensures)
       | else-sends_in w ↦
-          rw (w.parts-is, w.wires-is, w.handing-is, w.steps-is) (InjectedTo-until injected
+          rw (w.parts-is, w.wires-is, w.enqueuing-is, w.steps-is) (InjectedTo-until injected
           (number + 1) (omega arith)
           (λ other found has over below.
           let same : other ≡ number = omega (arith, over, below) in
@@ -192,6 +193,6 @@ pub returns-clause-wires : goal.returns-clause-wires
 returns-clause-wires g c =
     InjectedTo-wires c.numbers.invariant.injected (omega (arith, c.numbers-test.false))
 
-pub returns-clause-handing : goal.returns-clause-handing
-returns-clause-handing g c =
-    InjectedTo-woken c.numbers.invariant.injected (omega (arith, c.numbers-test.false))
+pub returns-clause-enqueuing : goal.returns-clause-enqueuing
+returns-clause-enqueuing g c =
+    InjectedTo-marked_active c.numbers.invariant.injected (omega (arith, c.numbers-test.false))

@@ -8,7 +8,7 @@ use Rattle.aeth_clocked.proofs.UsedLemmas.{NextUsed, used-end, used-next}
 use Rattle.aeth_clocked.specs.{Wires.flit_on, Wires.used_from, declared.flit.Flit.Flit}
 use Rattle.aeth_router.specs.Onward.{Nothing}
 use Rattle.aeth_router.specs.declared.forwarding.Forwarding.{Forwarding, TheVariants.ByPort}
-use Rattle.aeth_components.proofs.AmongLemmas.{IsLane-among}
+use Rattle.aeth_components.proofs.AmongLemmas.{IsChannelState-among}
 use Rattle.aeth_components.proofs.ComeLemmas.{came_to, counts-all, counts-none, flits_landed-none}
 use Rattle.aeth_components.proofs.ComeLemmas.{flits_landed-same, notes-all, notes-none}
 use Rattle.aeth_components.proofs.CountingLemmas.{flits_counted-until, flits_counted-whole}
@@ -18,7 +18,7 @@ use Rattle.aeth_components.proofs.ForwardedLemmas.{noted-below, noted-tells}
 use Rattle.aeth_components.proofs.LandedLemmas.{Lands, counts-more, counts-past, flits_landed-more}
 use Rattle.aeth_components.proofs.LandedLemmas.{flits_landed-past, notes-more, notes-past}
 use Rattle.aeth_components.proofs.InjectingLemmas.{HasPlaces-part}
-use Rattle.aeth_components.proofs.WokenLemmas.{AreInjecting-latched}
+use Rattle.aeth_components.proofs.MarkedActiveLemmas.{AreInjecting-latched}
 use Rattle.aeth_components.proofs.TakenLemmas.{OneMore-next, flit_on-all, flits_counted-next}
 use Rattle.aeth_components.proofs.TakenLemmas.{flits_on-all, flits_on-few, flits_on-next}
 use Rattle.aeth_components.proofs.WalkedLemmas.{length-notes_among}
@@ -26,9 +26,9 @@ use Rattle.aeth_components.proofs.landing.land.Goals.{After-count_flit, In-None,
 use Rattle.aeth_components.proofs.landing.land.Goals.{else-number-interfaces}
 use Rattle.aeth_components.proofs.landing.land.Goals.{then-number-interfaces}
 use Rattle.aeth_components.specs.{Channels.ChannelsState, Counting.counted_among}
-use Rattle.aeth_components.specs.{Counting.flits_counted, Counting.noted_among, Frames.frame_of}
-use Rattle.aeth_components.specs.{Lanes.IsLane, Passing.way_of, Seen.interfaces_latched}
-use Rattle.aeth_components.specs.{declared.counts.Counts.Counts}
+use Rattle.aeth_components.specs.{Counting.flits_counted, Counting.noted_among, Wirings.wiring_of}
+use Rattle.aeth_components.specs.{ChannelStates.IsChannelState, Passing.way_of}
+use Rattle.aeth_components.specs.{Seen.interfaces_latched, declared.counts.Counts.Counts}
 use Rattle.aeth_components.proofs.landing.land.Given as given
 use Rattle.aeth_components.proofs.landing.land.Goals as goal
 
@@ -55,7 +55,7 @@ within g c =
     let below = (next g c).below in
     let number = are.fits.receivers_below c.in-Some.wire 0
     (omega (arith, below, are.fits.receivers)) in
-    let count = are.count ∙ length-map c.args.parts.now frame_of in
+    let count = are.count ∙ length-map c.args.parts.now wiring_of in
     rw c.deref-receivers.ensures.value (omega (arith, number, count))
 
 -- How it sends flits on is noted.
@@ -74,7 +74,7 @@ loop-wire-init g c =
     let parts = c.args.parts.now in
     let wires = c.args.wires.now in
     let latched = interfaces_latched wires parts in
-    let lanes = c.args.channels.now.lanes in
+    let channel_states = c.args.channels.now.channel_states in
     let onward = c.requires.onward in
     record {
       from = 0;
@@ -82,9 +82,10 @@ loop-wire-init g c =
       within = omega arith;
       parts = flits_landed-none parts;
       injecting = c.requires.injecting;
-      lanes = counts-none parts latched c.args.cycle lanes;
+      channel_states = counts-none parts latched c.args.cycle channel_states;
       words = refl;
-      landings = notes-none parts latched c.args.cycle lanes c.args.counts.now.landings.items;
+      landings = notes-none parts latched c.args.cycle channel_states
+          c.args.counts.now.landings.items;
       flits = refl;
       all = refl;
       size = ap length onward ∙ length-replicate (length wires) Nothing;
@@ -112,7 +113,7 @@ flit-flit-requires g c = (next g ((goal.at.flit-flit-requires g c).In-Some)).som
 
 -- There are as many components as the ends say.
 few : (g : given.Over) (c : In-Some g) → length c.args.parts.now < 2 ^ 32
-few g c = omega (arith, c.requires.ends.count ∙ length-map c.args.parts.now frame_of)
+few g c = omega (arith, c.requires.ends.count ∙ length-map c.args.parts.now wiring_of)
 
 pub offset_bounds-parts-number : goal.offset_bounds-parts-number
 offset_bounds-parts-number g c =
@@ -139,11 +140,11 @@ there : (g : given.Over) (c : In-Some g)
     → get_or c.deref-receivers.result.now c.in-Some.wire 0 < length c.loop-wire.parts
 there g c = rw c.loop-wire.auto.parts (within g c)
 
-pub wake_told-requires : goal.wake_told-requires
-wake_told-requires g c =
+pub mark_told_active-requires : goal.mark_told_active-requires
+mark_told_active-requires g c =
     HasPlaces-part c.loop-wire.parts (get_or c.deref-receivers.result.now c.in-Some.wire 0)
     c.loop-wire.injecting c.loop-wire.invariant.injecting
-    (there g ((goal.at.wake_told-requires g c).In-Some))
+    (there g ((goal.at.mark_told_active-requires g c).In-Some))
 
 pub count_at-requires-clause-number : goal.count_at-requires-clause-number
 count_at-requires-clause-number g c =
@@ -164,8 +165,8 @@ count_at-requires-clause-few g c =
     (few g ((goal.at.count_at-requires-clause-few g c).In-Some))
 
 -- The channels are as sound as they were.
-pub count_at-requires-clause-lanes : goal.count_at-requires-clause-lanes
-count_at-requires-clause-lanes g c =
+pub count_at-requires-clause-channel_states : goal.count_at-requires-clause-channel_states
+count_at-requires-clause-channel_states g c =
     let parts = c.args.parts.now in
     let wires = c.args.wires.now in
     let done = c.loop-wire.invariant in
@@ -174,16 +175,17 @@ count_at-requires-clause-lanes g c =
     let words = length c.args.counts.now.landings.items in
     let size : length c.deref_mut-then-number-interfaces.result.now ≡ words =
     ap length (c.deref_mut-then-number-interfaces.ensures.value ∙ done.landings)
-    ∙ length-notes_among c.args.cycle latched before c.args.channels.now.lanes
+    ∙ length-notes_among c.args.cycle latched before c.args.channels.now.channel_states
     c.args.counts.now.landings.items in
     let number = get_or c.deref-receivers.result.now c.in-Some.wire 0 in
     let count : length (set c.loop-wire.parts number c.latch_one-told.new.part) ≡ length parts =
     length-set c.loop-wire.parts number c.latch_one-told.new.part ∙ c.loop-wire.auto.parts in
-    rw (size, count, done.lanes)
-    (All-map (IsLane words (length parts)) (counted_among before c.args.cycle latched)
-    c.args.channels.now.lanes
-    (λ k lane within. IsLane-among c.args.cycle latched before words (length parts) _
-    (c.requires.lanes k lane within)))
+    rw (size, count, done.channel_states)
+    (All-map (IsChannelState words (length parts)) (counted_among before c.args.cycle latched)
+    c.args.channels.now.channel_states
+    (λ k channel_state within. IsChannelState-among c.args.cycle latched before words (length parts)
+    _
+    (c.requires.channel_states k channel_state within)))
 
 -- Its flit comes to the component at its end.
 lands : (g : given.Over) (c : In-Some g) (flit : Flit)
@@ -245,7 +247,7 @@ loop-wire-preserved g c =
     let flits = flits g ((goal.at.loop-wire-preserved g c).After-count_flit) next in
     let wires = c.args.wires.now in
     let cycle = c.args.cycle in
-    let lanes = c.args.channels.now.lanes in
+    let channel_states = c.args.channels.now.channel_states in
     let landings = c.args.counts.now.landings.items in
     let done = c.loop-wire.invariant in
     let wire = c.in-Some.wire in
@@ -270,21 +272,24 @@ loop-wire-preserved g c =
             parts = w.parts-is ∙ more;
             injecting = rw (w.parts-is, w.injecting-is) (AreInjecting-latched c.loop-wire.parts number
                 c.flit-flit.result w.index-parts-number.result w.latch_one-told.new.part
-                w.latch_one-told.result c.loop-wire.injecting w.wake_told.new.self (there g some)
+                w.latch_one-told.result c.loop-wire.injecting w.mark_told_active.new.self
+                (there g some)
                 w.latch_one-told.ensures.part w.latch_one-told.ensures.told done.injecting
-                w.wake_told.ensures);
-            lanes = ap (λ (channels : ChannelsState). channels.lanes) w.channels-is
-                ∙ w.count_at.ensures.lanes
-                ∙ ap (map (counted_among (λ i. i == number) cycle now)) done.lanes
-                ∙ counts-more lands less more cycle lanes;
+                w.mark_told_active.ensures);
+            channel_states =
+                ap (λ (channels : ChannelsState). channels.channel_states) w.channels-is
+                ∙ w.count_at.ensures.channel_states
+                ∙ ap (map (counted_among (λ i. i == number) cycle now)) done.channel_states
+                ∙ counts-more lands less more cycle channel_states;
             words = ap (λ (channels : ChannelsState). channels.words) w.channels-is
                 ∙ w.count_at.ensures.words ∙ done.words;
             landings = ap (λ (counts : Counts). counts.landings.items) w.counts-is
                 ∙ written_back list.items w.count_at.new.landings list.len list.ok.0
                 (w.count_at.auto.landings ∙ ap length read)
                 ∙ w.count_at.ensures.landings
-                ∙ ap₂ (fold (noted_among (λ i. i == number) cycle now)) (read ∙ done.landings) done.lanes
-                ∙ notes-more lands less more cycle lanes landings;
+                ∙ ap₂ (fold (noted_among (λ i. i == number) cycle now)) (read ∙ done.landings)
+                done.channel_states
+                ∙ notes-more lands less more cycle channel_states landings;
             flits = ap (λ (counts : Counts). counts.flits.items) w.counts-is ∙ flits;
             all = ap (λ n. n + 1) done.all ∙ sym one;
             size = ap length w.onward-is ∙ done.size;
@@ -301,11 +306,13 @@ loop-wire-preserved g c =
             within = omega (arith, below);
             parts = w.parts-is ∙ done.parts ∙ flits_landed-past lands over;
             injecting = rw (w.parts-is, w.injecting-is) done.injecting;
-            lanes = ap (λ (channels : ChannelsState). channels.lanes) w.channels-is ∙ done.lanes
-                ∙ counts-past lands over cycle lanes;
+            channel_states =
+                ap (λ (channels : ChannelsState). channels.channel_states) w.channels-is
+                ∙ done.channel_states
+                ∙ counts-past lands over cycle channel_states;
             words = ap (λ (channels : ChannelsState). channels.words) w.channels-is ∙ done.words;
             landings = ap (λ (counts : Counts). counts.landings.items) w.counts-is ∙ done.landings
-                ∙ notes-past lands over cycle lanes landings;
+                ∙ notes-past lands over cycle channel_states landings;
             flits = ap (λ (counts : Counts). counts.flits.items) w.counts-is ∙ flits;
             all = ap (λ n. n + 1) done.all ∙ sym one;
             size = ap length w.onward-is ∙ w.pass.ensures.size ∙ done.size;
@@ -331,17 +338,17 @@ returns-clause-parts g c =
     ∙ flits_landed-same c.args.wires.now (take c.loop-wire.invariant.from c.args.wires.now)
     c.args.parts.now (same g c)
 
-pub returns-clause-lanes : goal.returns-clause-lanes
-returns-clause-lanes g c =
-    c.loop-wire.invariant.lanes
+pub returns-clause-channel_states : goal.returns-clause-channel_states
+returns-clause-channel_states g c =
+    c.loop-wire.invariant.channel_states
     ∙ counts-all c.args.wires.now (take c.loop-wire.invariant.from c.args.wires.now) c.args.parts.now
-    (same g c) c.args.cycle c.args.channels.now.lanes
+    (same g c) c.args.cycle c.args.channels.now.channel_states
 
 pub returns-clause-landings : goal.returns-clause-landings
 returns-clause-landings g c =
     c.loop-wire.invariant.landings
     ∙ notes-all c.args.wires.now (take c.loop-wire.invariant.from c.args.wires.now) c.args.parts.now
-    (same g c) c.args.cycle c.args.channels.now.lanes c.args.counts.now.landings.items
+    (same g c) c.args.cycle c.args.channels.now.channel_states c.args.counts.now.landings.items
 
 pub returns-clause-flits : goal.returns-clause-flits
 returns-clause-flits g c =

@@ -4,7 +4,7 @@ use Rattle.aeth_router.specs.Onward.{CameFrom, arrival_at}
 use Rattle.aeth_components.specs.{Counting.counted_among, Counting.flits_counted}
 use Rattle.aeth_components.specs.{Counting.noted_among, Injecting.AreInjecting}
 use Rattle.aeth_components.specs.{Passing.forwarded_from, Passing.way_of, Seen.flits_landed}
-use Rattle.aeth_components.specs.{Seen.interfaces_latched, Turns.flits_on}
+use Rattle.aeth_components.specs.{Seen.interfaces_latched, FlitsOnWires.flits_on}
 use Rattle.aeth_components.proofs.ComeLemmas.{came_to}
 use Rattle.aeth_components.proofs.landing.land.Given as goal
 
@@ -19,13 +19,13 @@ invariant-loop-wire g l =
       within : from ≤ length wires;
       parts : l.parts ≡ flits_landed (take from wires) l.fn.parts;
       injecting : AreInjecting l.parts l.injecting;
-      lanes : l.channels.lanes
+      channel_states : l.channels.channel_states
           ≡ map (counted_among (came_to (take from wires) l.fn.parts) l.cycle latched)
-          l.fn.channels.lanes;
+          l.fn.channels.channel_states;
       words : l.channels.words ≡ l.fn.channels.words;
       landings : l.counts.landings.items
           ≡ fold (noted_among (came_to (take from wires) l.fn.parts) l.cycle latched)
-          l.fn.counts.landings.items l.fn.channels.lanes;
+          l.fn.counts.landings.items l.fn.channels.channel_states;
       flits : l.counts.flits.items ≡ flits_counted (take from wires) l.fn.counts.flits.items;
       all : l.all ≡ flits_on (take from wires);
       size : length l.onward ≡ length wires;

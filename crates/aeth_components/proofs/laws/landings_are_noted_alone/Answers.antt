@@ -3,4 +3,5 @@ use Rattle.aeth_components.proofs.NoteLemmas.{NotesAlone-holds}
 
 -- Each at the places of its own words.
 pub returns : goal.returns
-returns c = λ cycle parts lanes landings. NotesAlone-holds cycle parts lanes landings
+returns c = λ cycle parts channel_states landings. NotesAlone-holds cycle parts channel_states
+    landings

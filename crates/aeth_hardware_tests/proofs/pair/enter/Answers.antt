@@ -1,5 +1,5 @@
 use Rattle.std.proofs.Common.{refl}
-use Rattle.aeth_components.proofs.EnteringLemmas.{frames-entered}
+use Rattle.aeth_components.proofs.EnteringLemmas.{wirings-entered}
 use Rattle.aeth_hardware_tests.proofs.RowLemmas.{fit-parts}
 use Rattle.aeth_hardware_tests.proofs.pair.enter.Goals as goal
 
@@ -10,4 +10,4 @@ enter-requires c =
 
 -- Rows change no wires.
 pub returns : goal.returns
-returns c = rw c.enter.ensures (frames-entered c.args.rows.now c.args.pair.now.parts)
+returns c = rw c.enter.ensures (wirings-entered c.args.rows.now c.args.pair.now.parts)

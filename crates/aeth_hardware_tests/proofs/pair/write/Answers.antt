@@ -1,6 +1,6 @@
-use Rattle.aeth_components.proofs.PartLemmas.{frames-switched}
+use Rattle.aeth_components.proofs.PartLemmas.{wirings-switched}
 use Rattle.aeth_hardware_tests.proofs.pair.write.Goals as goal
 
 -- Events change no wires.
 pub returns : goal.returns
-returns c = rw c.prepare.ensures (frames-switched c.args.events.now c.args.pair.now.parts)
+returns c = rw c.prepare.ensures (wirings-switched c.args.events.now c.args.pair.now.parts)

@@ -6,7 +6,7 @@ use Rattle.aeth_network.proofs.giving.offer.Given as goal
 abbrev pub invariant-loop-one : goal.invariant-loop-one
 invariant-loop-one l = record {
   components : l.components ≡ record l.fn.components {
-    lanes = fold (accepted_with l.time l.untils) l.fn.components.lanes
+    channel_states = fold (accepted_with l.time l.untils) l.fn.components.channel_states
         (take l.one-index l.offers);
   };
   outside : l.outside.items

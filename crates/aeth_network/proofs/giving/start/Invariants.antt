@@ -6,7 +6,7 @@ use Rattle.aeth_network.proofs.giving.start.Given as goal
 abbrev pub invariant-loop-place : goal.invariant-loop-place
 invariant-loop-place l = record {
   components : l.components ≡ record l.fn.components {
-    lanes = fold gone_with l.fn.components.lanes (take l.place l.goings);
+    channel_states = fold gone_with l.fn.components.channel_states (take l.place l.session_starts);
   };
-  untils : l.untils.items ≡ fold until_with l.fn.untils.items (take l.place l.goings);
+  untils : l.untils.items ≡ fold until_with l.fn.untils.items (take l.place l.session_starts);
 }

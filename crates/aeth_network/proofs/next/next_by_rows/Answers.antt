@@ -25,7 +25,8 @@ pub rows-preserved : goal.rows-preserved
 rows-preserved c =
     known-more (c.rows.row + 1) c.index-takes-row.result
     (λ number t row behind less at has. absurd (omega arith))
-    (λ t has. subst (λ (one : Take). IsAskedBy c.args.lanes.now one c.args.takes.now c.args.place t)
+    (λ t has. subst
+    (λ (one : Take). IsAskedBy c.args.channel_states.now one c.args.takes.now c.args.place t)
     (sym c.index-takes-row.is) has.1)
     c.rows.invariant c.next_by_row-next.ensures
 

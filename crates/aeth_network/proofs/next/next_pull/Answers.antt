@@ -17,8 +17,9 @@ rows-init c =
     let takes = c.args.takes.now in
     let few = passed-few cycle_of c.args.time takes in
     let place = c.requires.place in
-    pulled-first c.args.number c.args.lane.now.pull takes c.requires.order c.args.time c.args.place
-    c.args.lane.now.go c.max-since.result place (omega arith) c.max-since.ensures
+    pulled-first c.args.number c.args.channel_state.now.pull takes c.requires.order c.args.time
+    c.args.place
+    c.args.channel_state.now.go c.max-since.result place (omega arith) c.max-since.ensures
 
 -- The row is there.
 pub bounds-takes-at : goal.bounds-takes-at
@@ -66,16 +67,19 @@ rows-preserved c =
           let most = w.max-since-then-row-number.ensures in
           let then_is : c.if-row-number.since ≡ max since item.cycle =
           let is_since = w.since-is in omega (arith, is_since, most, cycle_is) in
-          let so_then = pulled-own c.args.number c.args.lane.now.pull takes c.requires.order c.args.time
-          c.args.place c.args.lane.now.go since at pull so item within is
+          let so_then =
+          pulled-own c.args.number c.args.channel_state.now.pull takes c.requires.order
+          c.args.time
+          c.args.place c.args.channel_state.now.go since at pull so item within is
           (eq-eqb item.number c.args.number (omega arith)) rests c.if-row-number.since then_is in
           let pulls : c.if-row-number.pull ≡ item.pull = w.pull-is ∙ pull_is in
           rw pulls so_then
       | else-row-number w ↦
           let other = w.if-row-number.false in
           rw (w.pull-is, w.since-is)
-          (pulled-other c.args.number c.args.lane.now.pull takes c.requires.order c.args.time
-          c.args.place c.args.lane.now.go since at pull so item within is
+          (pulled-other c.args.number c.args.channel_state.now.pull takes c.requires.order
+          c.args.time
+          c.args.place c.args.channel_state.now.go since at pull so item within is
           (ne_eqb item.number c.args.number (λ same. other (number_is ∙ same))))
     ]
 
@@ -85,7 +89,8 @@ returns-else-pull-gt0 c =
     let takes = c.args.takes.now in
     let ends = c.min-end.ensures in
     let exit = past-test c.is_before.ensures.exact c.rows-test.false in
-    pulls-never c.args.lane.now c.args.number takes c.args.time c.args.to c.args.place c.rows.since
+    pulls-never c.args.channel_state.now c.args.number takes c.args.time c.args.to c.args.place
+    c.rows.since
     c.rows.at c.rows.pull c.requires.to c.requires.waits c.rows.invariant
     (λ some. elim c.else-pull-gt0.branch [
       | else-pull-gt0-via-then-pull-gt0+else-since-end w ↦
@@ -94,6 +99,6 @@ returns-else-pull-gt0 c =
     ])
     (λ none.
     let limit = c.limit_of.ensures.none none in
-    let same : c.limit_of.result ≡ min c.args.to c.args.lane.now.fin = limit ∙ ends in
+    let same : c.limit_of.result ≡ min c.args.to c.args.channel_state.now.fin = limit ∙ ends in
     let is = ap (λ n. passed cycle_of n takes) same in
     omega arith)

@@ -4,7 +4,9 @@ use Rattle.aeth_network.proofs.next.next_pull.Given as goal
 
 -- So many words the receiver takes since then, by the rows so far.
 abbrev pub invariant-rows : goal.invariant-rows
-invariant-rows l = IsPulled l.number l.lane.pull l.takes l.time l.place l.lane.go l.since l.at l.pull
+invariant-rows l =
+    IsPulled l.number l.channel_state.pull l.takes l.time l.place l.channel_state.go l.since l.at
+    l.pull
 
 -- How many rows are left.
 abbrev pub decreases-rows : goal.decreases-rows

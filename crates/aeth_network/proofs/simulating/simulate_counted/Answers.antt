@@ -1,5 +1,5 @@
 use Rattle.std.proofs.Common.{◌≡◌, ◌≤◌, ◌∙◌, ◌<◌, ◌+◌, ◌-◌, ◌*◌, ap, arith, refl, subst, sym}
-use Rattle.aeth_components.specs.Turns.{flits_on}
+use Rattle.aeth_components.specs.FlitsOnWires.{flits_on}
 use Rattle.aeth_running.specs.Network.{played}
 use Rattle.aeth_network.specs.Carried.{carried_in}
 use Rattle.aeth_network.proofs.Playing.{done-of, played-none}

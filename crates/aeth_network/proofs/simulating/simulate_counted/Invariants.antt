@@ -1,5 +1,5 @@
 use Rattle.std.proofs.Common.{◌≡◌, ◌≤◌, ◌+◌, ◌-◌, ◌*◌, length}
-use Rattle.aeth_components.specs.Turns.{flits_on}
+use Rattle.aeth_components.specs.FlitsOnWires.{flits_on}
 use Rattle.aeth_running.specs.{Network.played, Quiet.IsNextBusy}
 use Rattle.aeth_network.specs.Carried.{carried_in}
 use Rattle.aeth_network.proofs.simulating.simulate_counted.Given as goal

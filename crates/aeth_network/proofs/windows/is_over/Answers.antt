@@ -1,6 +1,6 @@
 use Rattle.std.proofs.Common.{◌≡◌, ◌≤◌, arith, get_or, subst, sym}
 use Rattle.std.proofs.lemmas.{Bool.Decides.nat_tests, Option.get_or_from_slice_get}
-use Rattle.aeth_schedule.specs.{Windows.IsWithin, declared.windows.Window.Window}
+use Rattle.aeth_schedule.specs.{Windows.IsInWindow, declared.windows.Window.Window}
 use Rattle.aeth_network.proofs.WindowLemmas.{within-to}
 use Rattle.aeth_network.proofs.windows.is_over.Goals as goal
 
@@ -11,7 +11,7 @@ returns-then-place-windows-clause-over c = λ yes t window at later is.
     let item = get_or c.args.windows.now c.args.place none in
     let same : item ≡ window =
     get_or_from_slice_get c.args.windows.now c.args.place window none at in
-    let last = within-to item t (subst (λ (one : Window). IsWithin one t) (sym same) is) in
+    let last = within-to item t (subst (λ (one : Window). IsInWindow one t) (sym same) is) in
     let first = c.max.ensures in
     let all = c.max-then-place-windows.ensures in
     let limit = c.from.ensures in

@@ -1,6 +1,6 @@
 use Rattle.std.proofs.Common.{◌<◌, ◌+◌, ℕ, List, arith, get_or, inl, inr, length}
 use Rattle.std.proofs.lemmas.{Bool.cases_lt, Option.slice_get-get_or}
-use Rattle.aeth_schedule.specs.{Windows.IsWithin, declared.windows.Window.Window}
+use Rattle.aeth_schedule.specs.{Windows.IsInWindow, declared.windows.Window.Window}
 use Rattle.aeth_network.specs.Next.{HasWindow}
 use Rattle.aeth_network.proofs.KnownFirsts.{first-of, known-fewer, known-more, known-none, known-of}
 use Rattle.aeth_network.proofs.Passed.{past-test}
@@ -9,7 +9,7 @@ use Rattle.aeth_network.proofs.windows.next_window.Goals as goal
 
 -- A window in which a cycle lies, at its place.
 window-at : (windows : List Window) (number t : ℕ) (d : Window) → number < length windows
-    → IsWithin (get_or windows number d) t → HasWindow windows t
+    → IsInWindow (get_or windows number d) t → HasWindow windows t
 window-at windows number t d within is = record {
   number = number;
   window = get_or windows number d;

@@ -1,5 +1,5 @@
 use Rattle.std.proofs.Common.{◌+◌, arith}
-use Rattle.aeth_fabric.specs.Fabric.{fabric_of}
+use Rattle.aeth_routed_sessions.specs.RoutedSessions.{routed_sessions_of}
 use Rattle.aeth_running.proofs.{LosingNothing.loses-nothing, NetworkWires.standing}
 use Rattle.aeth_running.proofs.laws.cycles_lose_nothing.Goals as goal
 
@@ -7,7 +7,7 @@ use Rattle.aeth_running.proofs.laws.cycles_lose_nothing.Goals as goal
 pub returns : goal.returns
 returns c = λ inputs accepted routing routes t early.
     let running = c.networks_run.ensures inputs accepted routing routes in
-    let ok = c.runs_have_fabrics.ensures inputs accepted in
+    let ok = c.runs_have_routed_sessions.ensures inputs accepted in
     loses-nothing inputs ok routing running t early
-    (c.queues_fit.ensures.buffer (fabric_of inputs) ok (t + 1) _
+    (c.queues_fit.ensures.buffer (routed_sessions_of inputs) ok (t + 1) _
     (standing inputs routing running (t + 1) (omega (arith, early))))

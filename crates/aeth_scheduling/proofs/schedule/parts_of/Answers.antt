@@ -1,12 +1,13 @@
 use Rattle.std.proofs.Common.{refl}
 use Rattle.aeth_accepted.specs.Inputs.{run_of}
 use Rattle.aeth_group.specs.Members.{groups_of}
-use Rattle.aeth_schedule.specs.{Goings.goings_of, Lines.all_lines}
+use Rattle.aeth_schedule.specs.{SessionStarts.session_starts_of, Lines.all_lines}
 use Rattle.aeth_schedule.proofs.SwitchRows.{rows-known}
 use Rattle.aeth_scheduling.specs.Entered.{entered_lines}
-use Rattle.aeth_scheduling.proofs.ScheduleLemmas.{entered-are, entered-same, goings-by}
-use Rattle.aeth_scheduling.proofs.ScheduleLemmas.{goings-lines, loaded-lines, loaded-same, rows-are}
-use Rattle.aeth_scheduling.proofs.ScheduleLemmas.{timed-by, timed-lines, timed-same, windows-by}
+use Rattle.aeth_scheduling.proofs.ScheduleLemmas.{entered-are, entered-same, session_starts-by}
+use Rattle.aeth_scheduling.proofs.ScheduleLemmas.{session_starts-lines, loaded-lines, loaded-same}
+use Rattle.aeth_scheduling.proofs.ScheduleLemmas.{rows-are, timed-by, timed-lines, timed-same}
+use Rattle.aeth_scheduling.proofs.ScheduleLemmas.{windows-by}
 use Rattle.aeth_scheduling.proofs.schedule.parts_of.Goals as goal
 
 -- Each switch enters a use case that has its channels.
@@ -29,15 +30,15 @@ windows_of-requires c =
     rw (c.rows-rows.ensures, c.switches.ensures, c.requires.groups)
     (rows-known inputs c.are_accepted.ensures)
 
-pub goings_of-requires : goal.goings_of-requires
-goings_of-requires c =
+pub session_starts_of-requires : goal.session_starts_of-requires
+session_starts_of-requires c =
     let inputs = c.args.inputs.now in
     rw (c.rows-rows.ensures, c.switches.ensures, c.requires.groups)
     (rows-are inputs c.are_accepted.ensures)
 
 -- The parts are those of the schedule.
 pub returns-clause-parts : goal.returns-clause-parts
-unfolding goings_of
+unfolding session_starts_of
 returns-clause-parts c =
     let inputs = c.args.inputs.now in
     let accepted = c.are_accepted.ensures in
@@ -51,7 +52,7 @@ returns-clause-parts c =
       c.in_ok-loaded.ensures,
       c.in_ok-timed.ensures.events,
       c.in_ok-timed.ensures.cycles,
-      c.in_ok-goings.ensures,
+      c.in_ok-session_starts.ensures,
       c.in_ok-windows.ensures,
       c.in_ok-rooms.ensures,
       c.rows-rows.ensures,
@@ -61,9 +62,10 @@ returns-clause-parts c =
       c.requires.words,
       c.requires.cycles,
       timed-by groups task spans entered inputs.switches inputs.cycles planned,
-      goings-by groups task spans entered inputs.words inputs.cycles inputs.switches planned,
+      session_starts-by groups task spans entered inputs.words inputs.cycles inputs.switches
+          planned,
       timed-lines groups spans entered (all_lines inputs) inputs.switches inputs.cycles same,
-      goings-lines groups spans entered (all_lines inputs) inputs.words inputs.cycles
+      session_starts-lines groups spans entered (all_lines inputs) inputs.words inputs.cycles
           inputs.switches same,
       loaded-lines groups spans entered (all_lines inputs) inputs.switches same,
       windows-by task (run_of inputs).spans inputs.switches planned,

@@ -1,20 +1,21 @@
-use Rattle.aeth_stimuli.proofs.SessionGoings.{goings-ordered}
-use Rattle.aeth_stimuli.proofs.StimuliFit.{goings-lanes, goings-numbered, goings-room, offers-known}
-use Rattle.aeth_stimuli.proofs.StimuliFit.{offers-ordered, takes-known, takes-ordered}
+use Rattle.aeth_stimuli.proofs.StartsOfSessions.{session_starts-ordered}
+use Rattle.aeth_stimuli.proofs.StimuliFit.{session_starts-channel_states, session_starts-numbered}
+use Rattle.aeth_stimuli.proofs.StimuliFit.{session_starts-room, offers-known, offers-ordered}
+use Rattle.aeth_stimuli.proofs.StimuliFit.{takes-known, takes-ordered}
 use Rattle.aeth_stimuli.proofs.laws.stimuli_fit.Goals as goal
 
 -- Sessions come from lines of tables, whose rows name queues of the chip.
-pub returns-clause-goings : goal.returns-clause-goings
-returns-clause-goings c = goings-numbered
+pub returns-clause-session_starts : goal.returns-clause-session_starts
+returns-clause-session_starts c = session_starts-numbered
 
-pub returns-clause-going_order : goal.returns-clause-going_order
-returns-clause-going_order c = goings-ordered
+pub returns-clause-session_start_order : goal.returns-clause-session_start_order
+returns-clause-session_start_order c = session_starts-ordered
 
-pub returns-clause-lanes : goal.returns-clause-lanes
-returns-clause-lanes c = goings-lanes
+pub returns-clause-channel_states : goal.returns-clause-channel_states
+returns-clause-channel_states c = session_starts-channel_states
 
 pub returns-clause-room : goal.returns-clause-room
-returns-clause-room c = goings-room
+returns-clause-room c = session_starts-room
 
 -- Traces were read for the application, and are in order.
 pub returns-clause-offers : goal.returns-clause-offers

@@ -12,9 +12,10 @@ returns-clause-flits c =
     c.in_ok-counts.ensures.flits ∙ ap (λ (n : ℕ). replicate {A = ℕ} n 0) c.links.ensures.links
 
 -- A mark for each channel.
-pub returns-clause-handing : goal.returns-clause-handing
-returns-clause-handing c = λ parts.
-    c.in_ok-handing.ensures parts c.args.channels.now.lanes (sym (ap length c.lanes.ensures))
+pub returns-clause-enqueuing : goal.returns-clause-enqueuing
+returns-clause-enqueuing c = λ parts.
+    c.in_ok-enqueuing.ensures parts c.args.channels.now.channel_states
+    (sym (ap length c.channel_states.ensures))
 
 pub returns-clause-wires : goal.returns-clause-wires
 returns-clause-wires c =

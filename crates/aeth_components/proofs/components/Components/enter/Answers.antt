@@ -1,11 +1,11 @@
 use Rattle.std.proofs.Common.{◌≡◌, ◌++◌, ◌∙◌, ap, drop, length, refl, sym, take}
 use Rattle.aeth_components.proofs.components.Components.enter.Goals.{After-enter_all}
-use Rattle.aeth_components.proofs.EnteringLemmas.{IsComponents-entered, frames-entered}
+use Rattle.aeth_components.proofs.EnteringLemmas.{IsComponents-entered, wirings-entered}
 use Rattle.aeth_components.proofs.EnteringLemmas.{queue_of-entered, tables-entered, ways-entered}
 use Rattle.aeth_components.proofs.RoomLemmas.{IsFull-entered}
 use Rattle.aeth_components.proofs.SeenCycle.{TakesRows-bare, with_rows-seen}
-use Rattle.aeth_components.proofs.WaitingLemmas.{AreHanding-kept}
-use Rattle.aeth_components.proofs.WokenLemmas.{AreInjecting-kept}
+use Rattle.aeth_components.proofs.WaitingLemmas.{AreEnqueuing-kept}
+use Rattle.aeth_components.proofs.MarkedActiveLemmas.{AreInjecting-kept}
 use Rattle.aeth_components.specs.{Components.components_of, Entering.with_rows}
 use Rattle.aeth_base.proofs.Lists.{written_back}
 use Rattle.aeth_components.proofs.components.Components.enter.Goals as goal
@@ -34,13 +34,13 @@ invariant_of-self c =
     let rows = c.args.rows.now in
     let parts = all.parts.items in
     rw (written ((goal.at.invariant_of-self c).After-enter_all)) (
-      IsComponents-entered rows (components_of parts all.wires all.channels.lanes
+      IsComponents-entered rows (components_of parts all.wires all.channels.channel_states
           all.channels.words all.counts.landings.items all.counts.flits.items) c.self.invariant.0,
-      rw (frames-entered rows parts, ways-entered rows parts) c.self.invariant.1,
+      rw (wirings-entered rows parts, ways-entered rows parts) c.self.invariant.1,
       AreInjecting-kept parts (with_rows rows parts) all.turns.injecting c.self.invariant.2
           (tables-entered rows parts)
           (λ other queue may. rw (sym (queue_of-entered rows parts other queue)) may),
-      AreHanding-kept parts (with_rows rows parts) all.channels.lanes all.handing
+      AreEnqueuing-kept parts (with_rows rows parts) all.channels.channel_states all.enqueuing
           (IsFull-entered rows parts) c.self.invariant.3,
     )
 

@@ -1,10 +1,11 @@
 use Rattle.std.proofs.Common.{◌≡◌, ◌++◌, ◌∙◌, ap, drop, length, refl, take}
 use Rattle.aeth_components.proofs.{components.Components.prepare.Goals.After-switch}
 use Rattle.aeth_components.proofs.{CycleLemmas.IsComponents-switched, SeenPhases.ways-switched}
-use Rattle.aeth_components.proofs.{PartLemmas.frames-switched, ReadyLemmas.AreReady-noted}
-use Rattle.aeth_components.proofs.{RoomLemmas.IsFull-switched, WaitingLemmas.AreHanding-woken}
-use Rattle.aeth_components.proofs.{SeenLemmas.frames-seen, SeenLemmas.switched-seen}
-use Rattle.aeth_components.specs.{Changes.switched, Components.components_of, Handing.HasEvent}
+use Rattle.aeth_components.proofs.{PartLemmas.wirings-switched, ReadyLemmas.AreReady-noted}
+use Rattle.aeth_components.proofs.{RoomLemmas.IsFull-switched}
+use Rattle.aeth_components.proofs.{WaitingLemmas.AreEnqueuing-marked_active}
+use Rattle.aeth_components.proofs.{SeenLemmas.wirings-seen, SeenLemmas.switched-seen}
+use Rattle.aeth_components.specs.{Changes.switched, Components.components_of, Enqueuing.HasEvent}
 use Rattle.aeth_base.proofs.Lists.{written_back}
 use Rattle.aeth_components.proofs.components.Components.prepare.Goals as goal
 
@@ -12,7 +13,7 @@ use Rattle.aeth_components.proofs.components.Components.prepare.Goals as goal
 pub switch-requires-clause-events : goal.switch-requires-clause-events
 switch-requires-clause-events c =
     let all = c.self.inside in
-    rw (c.deref_mut.ensures.value, ← frames-seen all.wires all.parts.items)
+    rw (c.deref_mut.ensures.value, ← wirings-seen all.wires all.parts.items)
     (rw (← c.self.view_is) at c.requires)
 
 -- The vector has what events make of the components.
@@ -31,13 +32,15 @@ invariant_of-self c =
     let all = c.self.inside in
     let events = c.args.events.now in
     rw (written ((goal.at.invariant_of-self c).After-switch)) (
-      IsComponents-switched events (components_of all.parts.items all.wires all.channels.lanes
+      IsComponents-switched events
+          (components_of all.parts.items all.wires all.channels.channel_states
           all.channels.words all.counts.landings.items all.counts.flits.items) c.self.invariant.0,
-      rw (frames-switched events all.parts.items, ways-switched events all.parts.items)
+      rw (wirings-switched events all.parts.items, ways-switched events all.parts.items)
           (AreReady-noted c.self.invariant.1),
       rw (c.switch.ensures.parts, c.deref_mut.ensures.value) at c.switch.ensures.injecting,
-      AreHanding-woken (HasEvent events) all.parts.items (switched events all.parts.items)
-          all.channels.lanes all.handing c.wake_for.new.self c.wake_for.ensures
+      AreEnqueuing-marked_active (HasEvent events) all.parts.items (switched events all.parts.items)
+          all.channels.channel_states all.enqueuing c.mark_active_for.new.self
+          c.mark_active_for.ensures
           (IsFull-switched events all.parts.items) c.self.invariant.3,
     )
 

@@ -14,18 +14,18 @@ use Rattle.aeth_components.proofs.{components.Components.put.Goals.After-set}
 use Rattle.aeth_components.proofs.{CycleLemmas.IsComponents-replaced, CycleLemmas.views-slice_set}
 use Rattle.aeth_components.proofs.{ReplacedLemmas.all_seen-replaced, ReplacedLemmas.receives-there}
 use Rattle.aeth_components.proofs.{ReplacedLemmas.without_held-is, RoomLemmas.IsFull-replaced}
-use Rattle.aeth_components.proofs.{SeenLemmas.frames-seen, TableLemmas.may_send-replaced}
-use Rattle.aeth_components.proofs.{TableLemmas.tables-replaced, WaitingLemmas.AreHanding-kept}
-use Rattle.aeth_components.proofs.{WokenLemmas.AreInjecting-kept}
-use Rattle.aeth_components.specs.{Changes.told_by, Components.components_of, Components.frames_of}
-use Rattle.aeth_components.specs.{Ends.AreEnds, Ends.is_interface, Frames.Frame, Frames.IsWired}
-use Rattle.aeth_components.specs.{Frames.frame_of, Handing.room_left, Passing.AreForwarded}
+use Rattle.aeth_components.proofs.{SeenLemmas.wirings-seen, TableLemmas.may_send-replaced}
+use Rattle.aeth_components.proofs.{TableLemmas.tables-replaced, WaitingLemmas.AreEnqueuing-kept}
+use Rattle.aeth_components.proofs.{MarkedActiveLemmas.AreInjecting-kept}
+use Rattle.aeth_components.specs.{Changes.told_by, Components.components_of, Components.wirings_of}
+use Rattle.aeth_components.specs.{Ends.AreEnds, Ends.is_interface, Wirings.Wiring, Wirings.IsWired}
+use Rattle.aeth_components.specs.{Wirings.wiring_of, Enqueuing.room_left, Passing.AreForwarded}
 use Rattle.aeth_components.specs.{Passing.way_of, Replacing.without_held}
 use Rattle.aeth_components.specs.{declared.turns.Turns.Turns}
 use Rattle.aeth_components.proofs.components.Components.put.Goals as goal
 
 -- A component that is no interface has no room.
-room-other : (part : Part) → is_interface (frame_of part) ≡ false
+room-other : (part : Part) → is_interface (wiring_of part) ≡ false
     → (queue : ℕ) → told_by queue room_left part ≡ 0
 room-other (Interface ni) other queue = absurd (cc other)
 room-other (Router router) other queue = refl
@@ -33,39 +33,42 @@ room-other (TableRouter router) other queue = refl
 room-other (Stage stage) other queue = refl
 
 -- It has the wires of the one in whose place it comes.
-framed : (c : After-lose) → slice_get (map frame_of c.self.inside.parts.items) c.args.place
-    ≡ Some (frame_of c.args.part)
-framed c =
+wired_for : (c : After-lose) → slice_get (map wiring_of c.self.inside.parts.items) c.args.place
+    ≡ Some (wiring_of c.args.part)
+wired_for c =
     let all = c.self.inside in
-    ap (λ (frames : List Frame). slice_get frames c.args.place)
-    (sym (frames-seen all.wires all.parts.items) ∙ ap frames_of c.self.view_is)
+    ap (λ (wirings : List Wiring). slice_get wirings c.args.place)
+    (sym (wirings-seen all.wires all.parts.items) ∙ ap wirings_of c.self.view_is)
     ∙ c.requires.links
 
 there : (c : After-lose) → c.args.place < length c.self.inside.parts.items
 there c =
     let all = c.self.inside in
-    let within = slice_get_within (map frame_of all.parts.items) c.args.place (frame_of c.args.part)
-    (framed c) in
-    let size = length-map all.parts.items frame_of in
+    let within =
+    slice_get_within (map wiring_of all.parts.items) c.args.place (wiring_of c.args.part)
+    (wired_for c) in
+    let size = length-map all.parts.items wiring_of in
     omega (arith, within, size)
 
--- So with it all have the frames that they had.
+-- So with it all have the wirings that they had.
 abbrev now : After-lose → List Part
 now c = set c.self.inside.parts.items c.args.place c.args.part
 
-frames : (c : After-lose) → map frame_of (now c) ≡ map frame_of c.self.inside.parts.items
-frames c = views-slice_set frame_of c.self.inside.parts.items c.args.place c.args.part (framed c)
+wirings : (c : After-lose) → map wiring_of (now c) ≡ map wiring_of c.self.inside.parts.items
+wirings c = views-slice_set wiring_of c.self.inside.parts.items c.args.place c.args.part
+    (wired_for c)
 
-wired : (c : After-lose) → IsWired (map frame_of (now c)) (length c.self.inside.wires)
+wired : (c : After-lose) → IsWired (map wiring_of (now c)) (length c.self.inside.wires)
 wired c =
-    subst (λ (frames : List Frame). IsWired frames (length c.self.inside.wires)) (sym (frames c))
+    subst (λ (wirings : List Wiring). IsWired wirings (length c.self.inside.wires))
+    (sym (wirings c))
     c.self.invariant.0.wired
 
 ends : (c : After-lose)
-    → AreEnds (map frame_of (now c)) (length c.self.inside.wires) c.self.inside.turns.ends
+    → AreEnds (map wiring_of (now c)) (length c.self.inside.wires) c.self.inside.turns.ends
 ends c =
-    subst (λ (frames : List Frame).
-    AreEnds frames (length c.self.inside.wires) c.self.inside.turns.ends) (sym (frames c))
+    subst (λ (wirings : List Wiring).
+    AreEnds wirings (length c.self.inside.wires) c.self.inside.turns.ends) (sym (wirings c))
     c.self.invariant.1.ends
 
 at : (c : After-lose) → slice_get (now c) c.args.place ≡ Some c.args.part
@@ -137,13 +140,14 @@ invariant_of-self c =
     let put = (goal.at.invariant_of-self c).After-set in
     let ready = c.self.invariant.1 in
     let size = c.lose.ensures.size in
-    let before = IsComponents-replaced place part (components_of parts all.wires all.channels.lanes
-    all.channels.words all.counts.landings.items all.counts.flits.items) (framed lose)
+    let before =
+    IsComponents-replaced place part (components_of parts all.wires all.channels.channel_states
+    all.channels.words all.counts.landings.items all.counts.flits.items) (wired_for lose)
     c.self.invariant.0 in
     rw (written put) (
       record {
         wired = rw size before.wired;
-        lanes = before.lanes;
+        channel_states = before.channel_states;
         landings = before.landings;
         flits = rw size before.flits;
         few = before.few;
@@ -164,9 +168,9 @@ invariant_of-self c =
             (sym c.has_table.ensures ∙ both.0) (ready.tables both.1));
       },
       rw c.pass_on.ensures.turns (AreInjecting-kept parts (set parts place part) all.turns.injecting
-          c.self.invariant.2 (tables-replaced parts place part c.requires.kind (framed lose))
+          c.self.invariant.2 (tables-replaced parts place part c.requires.kind (wired_for lose))
           (may_send-replaced parts place part c.requires.kind)),
-      AreHanding-kept parts (set parts place part) all.channels.lanes all.handing
+      AreEnqueuing-kept parts (set parts place part) all.channels.channel_states all.enqueuing
           (λ end. IsFull-replaced place part (room-other part c.requires.kind) parts end.ni.0 end.queue)
           c.self.invariant.3,
     )

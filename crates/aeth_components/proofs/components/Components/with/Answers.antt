@@ -3,7 +3,7 @@ use Rattle.std.proofs.lemmas.List.{length-replicate}
 use Rattle.aeth_chip.proofs.WireLemmas.{have_delays, wires_of-split}
 use Rattle.aeth_chip.specs.Wires.{wires_of}
 use Rattle.aeth_clocked.specs.declared.flit.Flit.{Flit}
-use Rattle.aeth_components.proofs.{KindLemmas.frames-kind, KindLemmas.length-kind}
+use Rattle.aeth_components.proofs.{KindLemmas.wirings-kind, KindLemmas.length-kind}
 use Rattle.aeth_components.proofs.{MadeLemmas.IsWired-new, SeenCycle.new_parts-seen}
 use Rattle.aeth_components.specs.Making.{new_parts}
 use Rattle.aeth_components.proofs.components.Components.with.Goals as goal
@@ -21,9 +21,12 @@ invariant_of-result c =
     let links = c.slots.ensures.chip.few_links in
     rw (c.in_ok-parts.ensures, made.wires) (
       record {
-        wired = rw (length-replicate {A = Option Flit} (wires_of chip.links) None, frames-kind chip kind rooms)
+        wired = rw (
+          length-replicate {A = Option Flit} (wires_of chip.links) None,
+          wirings-kind chip kind rooms,
+        )
             (IsWired-new chip c.slots.ensures.chip rooms);
-        lanes = rw (length-kind chip kind rooms) c.requires.lanes;
+        channel_states = rw (length-kind chip kind rooms) c.requires.channel_states;
         landings = landings;
         flits = (
             let split = wires_of-split chip.links (have_delays chip c.slots.ensures.chip) in
@@ -33,7 +36,7 @@ invariant_of-result c =
       },
       made.ready rooms (c.deref.ensures.value ∙ c.in_ok-parts.ensures),
       made.injecting rooms,
-      made.handing (new_parts chip kind rooms),
+      made.enqueuing (new_parts chip kind rooms),
     )
 
 -- The components are seen as they were made, as the wires have nothing.

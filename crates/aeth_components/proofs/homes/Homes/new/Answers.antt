@@ -9,6 +9,7 @@ returns c = record {
       let own = c.in_ok-vec.field-0.ok.0 in
       omega arith);
   few = c.requires;
-  at = λ apart number lane at waits.
-      absurd (let none = c.await_none.ensures apart number lane at in omega (arith, none, waits));
+  at = λ apart number channel_state at waits.
+      absurd (let none =
+      c.await_none.ensures apart number channel_state at in omega (arith, none, waits));
 }

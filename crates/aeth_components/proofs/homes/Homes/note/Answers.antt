@@ -7,8 +7,8 @@ use Rattle.aeth_components.proofs.homes.Homes.note.Goals as goal
 
 -- The channel has come to its place, or another one is there.
 pub returns-after-self : goal.returns-after-self
-returns-after-self c = λ lanes are within.
-    let lane = c.args.lane.now in
+returns-after-self c = λ channel_states are within.
+    let channel_state = c.args.channel_state.now in
     let numbers = c.come_to-is_own.new.numbers in
     let old = c.args.self.now.numbers in
     let kept = c.come_to-is_own.auto.numbers ∙ ap length c.deref_mut.ensures.value in
@@ -16,7 +16,7 @@ returns-after-self c = λ lanes are within.
     record {
       size = ap length written ∙ kept ∙ are.size;
       few = (
-          let size = length-set lanes c.args.number lane in
+          let size = length-set channel_states c.args.number channel_state in
           let few = are.few in
           omega (arith, size, few));
       at = λ apart n found at waits.
@@ -24,7 +24,8 @@ returns-after-self c = λ lanes are within.
           (home_at found.receiver.ni.0 found.receiver.queue)) written
           ∙ elim c.if-self.branch [
             | then-self w ↦
-                home-changed c.args.self.now lanes c.args.number lane numbers are w.if-self.true within
+                home-changed c.args.self.now channel_states c.args.number channel_state numbers are
+                w.if-self.true within
                 (λ waits.
                 ap (slice_get numbers) (sym c.place_of-home.ensures.place)
                 ∙ c.come_to-is_own.ensures.own (sym w.self-is ∙ apart))
@@ -37,8 +38,8 @@ returns-after-self c = λ lanes are within.
     }
 
 -- No words are still to land of it.
-pub returns-else-lane : goal.returns-else-lane
-returns-else-lane c = λ lanes are within.
-    let none = c.if-lane.false in
-    AreHomes-set c.args.self.now lanes c.args.number c.args.lane.now within
+pub returns-else-channel_state : goal.returns-else-channel_state
+returns-else-channel_state c = λ channel_states are within.
+    let none = c.if-channel_state.false in
+    AreHomes-set c.args.self.now channel_states c.args.number c.args.channel_state.now within
     (λ apart waits. absurd (omega (arith, none, waits))) are

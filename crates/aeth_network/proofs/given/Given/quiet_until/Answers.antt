@@ -1,5 +1,6 @@
 use Rattle.std.proofs.Common.{◌∙◌, ℕ, ap, arith, map, refl}
-use Rattle.aeth_schedule.specs.declared.going.{Going.Going, GoingByLine.GoingByLine}
+use Rattle.aeth_schedule.specs.declared.session_start.SessionStart.{SessionStart}
+use Rattle.aeth_schedule.specs.declared.session_start.SessionStartByLine.{SessionStartByLine}
 use Rattle.aeth_stimuli.specs.Stimuli.{Take}
 use Rattle.aeth_network.proofs.MappedRows.{passed-keyed, rises-keyed}
 use Rattle.aeth_network.proofs.QuietPlaces.{quiet-sooner}
@@ -8,31 +9,34 @@ use Rattle.aeth_network.proofs.given.Given.quiet_until.Goals as goal
 -- Sessions go in the cycles of their list.
 pub quiet_until-until-requires-2 : goal.quiet_until-until-requires-2
 quiet_until-until-requires-2 c =
-    rises-keyed (λ (one : GoingByLine). one.go) (λ (one : Going). one.lane.go) c.list.result.now
-    c.args.self.now.schedule.goings
-    (c.list.ensures ∙ ap (map (λ (one : Going). one.lane.go)) c.goings.ensures)
-    c.requires.goings
+    rises-keyed (λ (one : SessionStartByLine). one.go)
+    (λ (one : SessionStart). one.channel_state.go) c.list.result.now
+    c.args.self.now.schedule.session_starts
+    (c.list.ensures ∙ ap (map (λ (one : SessionStart). one.channel_state.go))
+    c.session_starts.ensures)
+    c.requires.session_starts
 
 -- The cycle is not behind that of any of the four.
 pub returns-clause-events : goal.returns-clause-events
 returns-clause-events c =
-    let goings = c.quiet_until-until-2.ensures.most in
+    let session_starts = c.quiet_until-until-2.ensures.most in
     let takes = c.quiet_until-until-3.ensures.most in
     let enters = c.unentered_until.ensures.most in
     quiet-sooner (λ (cycle : ℕ). cycle) _ _ _ c.cycles.result.now _ c.cycles.ensures (omega arith)
     c.quiet_until-until.ensures.quiet
 
-pub returns-clause-goings : goal.returns-clause-goings
-returns-clause-goings c =
+pub returns-clause-session_starts : goal.returns-clause-session_starts
+returns-clause-session_starts c =
     let takes = c.quiet_until-until-3.ensures.most in
     let enters = c.unentered_until.ensures.most in
-    let go = λ (one : GoingByLine). one.go in
+    let go = λ (one : SessionStartByLine). one.go in
     let early = quiet-sooner go c.quiet_until-until-2.result c.unentered_until.result
-    c.args.going c.list.result.now c.list.result.now refl (omega arith)
+    c.args.session_start c.list.result.now c.list.result.now refl (omega arith)
     c.quiet_until-until-2.ensures.quiet in
-    let same = passed-keyed go (λ (one : Going). one.lane.go) c.unentered_until.result
-    c.list.result.now c.args.self.now.schedule.goings (c.list.ensures
-    ∙ ap (map (λ (one : Going). one.lane.go)) c.goings.ensures) in
+    let same = passed-keyed go (λ (one : SessionStart). one.channel_state.go)
+    c.unentered_until.result
+    c.list.result.now c.args.self.now.schedule.session_starts (c.list.ensures
+    ∙ ap (map (λ (one : SessionStart). one.channel_state.go)) c.session_starts.ensures) in
     omega (arith, early, same)
 
 pub returns-clause-takes : goal.returns-clause-takes

@@ -1,5 +1,6 @@
 use Rattle.std.proofs.Common.{◌∙◌, ◌+◌, ℕ, List, ap, arith, map, subst, sym, slice_range}
-use Rattle.aeth_schedule.specs.declared.going.{Going.Going, GoingByLine.GoingByLine}
+use Rattle.aeth_schedule.specs.declared.session_start.SessionStart.{SessionStart}
+use Rattle.aeth_schedule.specs.declared.session_start.SessionStartByLine.{SessionStartByLine}
 use Rattle.aeth_stimuli.specs.Stimuli.{Offer, Take}
 use Rattle.aeth_network.specs.{Behind.passed, Windows.AreOver}
 use Rattle.aeth_network.proofs.MappedRows.{events-range, behind-keyed, length-keyed, passed-keyed}
@@ -7,38 +8,47 @@ use Rattle.aeth_network.proofs.MappedRows.{rises-keyed}
 use Rattle.aeth_network.proofs.given.Given.rows.Goals as goal
 
 -- Sessions go in the cycles of their list.
-pub behind-going-requires-clause-order : goal.behind-going-requires-clause-order
-behind-going-requires-clause-order c =
-    rises-keyed (λ (one : GoingByLine). one.go) (λ (one : Going). one.lane.go) c.list.result.now
-    c.args.self.now.schedule.goings
-    (c.list.ensures ∙ ap (map (λ (one : Going). one.lane.go)) c.goings-goings.ensures)
-    c.requires.order.goings
+pub behind-session_start-requires-clause-order : goal.behind-session_start-requires-clause-order
+behind-session_start-requires-clause-order c =
+    rises-keyed (λ (one : SessionStartByLine). one.go)
+    (λ (one : SessionStart). one.channel_state.go) c.list.result.now
+    c.args.self.now.schedule.session_starts
+    (c.list.ensures ∙ ap (map (λ (one : SessionStart). one.channel_state.go))
+    c.session_starts-session_starts.ensures)
+    c.requires.order.session_starts
 
-pub behind-going-requires-clause-from : goal.behind-going-requires-clause-from
-behind-going-requires-clause-from c =
-    c.requires.from.going_is
-    ∙ sym (passed-keyed (λ (one : GoingByLine). one.go) (λ (one : Going). one.lane.go) c.args.time
-    c.list.result.now c.args.self.now.schedule.goings
-    (c.list.ensures ∙ ap (map (λ (one : Going). one.lane.go)) c.goings-goings.ensures))
+pub behind-session_start-requires-clause-from : goal.behind-session_start-requires-clause-from
+behind-session_start-requires-clause-from c =
+    c.requires.from.session_start_is
+    ∙ sym (passed-keyed (λ (one : SessionStartByLine). one.go)
+    (λ (one : SessionStart). one.channel_state.go) c.args.time
+    c.list.result.now c.args.self.now.schedule.session_starts
+    (c.list.ensures ∙ ap (map (λ (one : SessionStart). one.channel_state.go))
+    c.session_starts-session_starts.ensures))
 
 -- So their places are places of sessions.
 pub range-requires-clause-to : goal.range-requires-clause-to
 range-requires-clause-to c =
-    let same = length-keyed (λ (one : GoingByLine). one.go) (λ (one : Going). one.lane.go)
-    c.list.result.now c.goings-goings.result c.list.ensures in
-    let within = c.behind-going.ensures.within in
+    let same = length-keyed (λ (one : SessionStartByLine). one.go)
+    (λ (one : SessionStart). one.channel_state.go)
+    c.list.result.now c.session_starts-session_starts.result c.list.ensures in
+    let within = c.behind-session_start.ensures.within in
     omega arith
 
-pub returns-clause-goings : goal.returns-clause-goings
-returns-clause-goings c =
-    let goings = c.args.self.now.schedule.goings in
-    let keys = c.list.ensures ∙ ap (map (λ (one : Going). one.lane.go)) c.goings-goings.ensures in
-    let at = behind-keyed (λ (one : GoingByLine). one.go) (λ (one : Going). one.lane.go) c.args.time
-    c.list.result.now goings c.args.from.going c.behind-going.result keys c.requires.order.goings
-    c.requires.from.going_is c.behind-going.ensures in
+pub returns-clause-session_starts : goal.returns-clause-session_starts
+returns-clause-session_starts c =
+    let session_starts = c.args.self.now.schedule.session_starts in
+    let keys = c.list.ensures ∙ ap (map (λ (one : SessionStart). one.channel_state.go))
+    c.session_starts-session_starts.ensures in
+    let at = behind-keyed (λ (one : SessionStartByLine). one.go)
+    (λ (one : SessionStart). one.channel_state.go) c.args.time
+    c.list.result.now session_starts c.args.from.session_start c.behind-session_start.result keys
+    c.requires.order.session_starts
+    c.requires.from.session_start_is c.behind-session_start.ensures in
     c.range.ensures
-    ∙ ap (λ (all : List Going). slice_range all c.args.from.going c.behind-going.result)
-    c.goings-goings.ensures
+    ∙ ap (λ (all : List SessionStart). slice_range all c.args.from.session_start
+    c.behind-session_start.result)
+    c.session_starts-session_starts.ensures
     ∙ at.rows_are
 
 -- The events are those of the cycle.
@@ -60,10 +70,12 @@ returns-clause-behind c =
     record {
       event_is = c.behind-event.ensures.place
           ∙ ap (passed (λ (cycle : ℕ). cycle) next) c.cycles.ensures;
-      going_is = c.behind-going.ensures.place
-          ∙ passed-keyed (λ (one : GoingByLine). one.go) (λ (one : Going). one.lane.go) next
-          c.list.result.now c.args.self.now.schedule.goings (c.list.ensures
-          ∙ ap (map (λ (one : Going). one.lane.go)) c.goings-goings.ensures);
+      session_start_is = c.behind-session_start.ensures.place
+          ∙ passed-keyed (λ (one : SessionStartByLine). one.go)
+          (λ (one : SessionStart). one.channel_state.go) next
+          c.list.result.now c.args.self.now.schedule.session_starts (c.list.ensures
+          ∙ ap (map (λ (one : SessionStart). one.channel_state.go))
+          c.session_starts-session_starts.ensures);
       offer_is = c.behind-offer.ensures.place
           ∙ ap (passed (λ (one : Offer). one.cycle) next) c.deref.ensures.value;
       take_is = c.behind-take.ensures.place
@@ -73,7 +85,7 @@ returns-clause-behind c =
       entering_is = c.behind_entering-entering.ensures.place;
       quiet = record {
         events = c.quiet_until.ensures.events;
-        goings = c.quiet_until.ensures.goings;
+        session_starts = c.quiet_until.ensures.session_starts;
         takes = c.quiet_until.ensures.takes;
         enterings = c.quiet_until.ensures.enterings;
       };

@@ -10,7 +10,8 @@ use Rattle.aeth_network.proofs.network.RoutedNetwork.begin.Goals as goal
 pub bring-requires : goal.bring-requires
 bring-requires c =
     let rows = c.rows-rows.ensures in
-    can-bring c.self.inside c.self.invariant.0 c.rows-rows.result rows.goings rows.offers rows.takes
+    can-bring c.self.inside c.self.invariant.0 c.rows-rows.result rows.session_starts rows.offers
+    rows.takes
 
 -- What is brought is all that the cycle does.
 step : (c : goal.After-self-3-1)
@@ -28,7 +29,8 @@ step c =
     c.bring.ensures.capacity has early
     (brought-is inside c.self.invariant.0 has
     (c.networks_rest.ensures.one has.inputs has.of.accepted (routing_with inside.given) has.of.routed)
-    (subst IsStill (sym c.self.view_is) c.requires.still) early c.rows-rows.result rows.goings
+    (subst IsStill (sym c.self.view_is) c.requires.still) early c.rows-rows.result
+    rows.session_starts
     rows.offers rows.takes rows.events c.bring.new.self c.bring.ensures)
 
 pub returns-clause-steps : goal.returns-clause-steps

@@ -1,6 +1,6 @@
 use Rattle.std.proofs.Common.{◌≡◌, ◌<◌, ◌∙◌, ap, arith, length, subst, sym, slice_range}
 use Rattle.std.proofs.Common.{vec_capacity}
-use Rattle.aeth_components.specs.{Components.ComponentsState, Turns.flits_on}
+use Rattle.aeth_components.specs.{Components.ComponentsState, FlitsOnWires.flits_on}
 use Rattle.aeth_running.specs.{Network.NetworkState, Network.stepped, Routing.later_rows}
 use Rattle.aeth_network.specs.Routes.{routing_in}
 use Rattle.aeth_network.proofs.Cycling.{can-bring, events-doable, stepped-behind}
@@ -13,7 +13,8 @@ use Rattle.aeth_network.proofs.network.RoutedNetwork.cycle_with_rows.Goals as go
 pub bring-requires : goal.bring-requires
 bring-requires g c =
     let rows = c.rows-rows.ensures in
-    can-bring c.self.inside c.self.invariant.0 c.rows-rows.result rows.goings rows.offers rows.takes
+    can-bring c.self.inside c.self.invariant.0 c.rows-rows.result rows.session_starts rows.offers
+    rows.takes
 
 -- The rows that enter are in range of the tables.
 pub enter-requires-clause-takes : goal.enter-requires-clause-takes
@@ -48,7 +49,8 @@ run-requires-clause-time g c =
 pub run-requires-clause-events : goal.run-requires-clause-events
 run-requires-clause-events g c =
     let rows = c.rows-rows.ensures in
-    events-doable c.self.inside c.self.invariant.0 c.rows-rows.result rows.goings rows.offers
+    events-doable c.self.inside c.self.invariant.0 c.rows-rows.result rows.session_starts
+    rows.offers
     rows.takes c.bring.new.self c.bring.ensures rows.events c.enter.new.components rows.tables
     rows.entering c.enter.ensures
 
@@ -63,7 +65,8 @@ step g c =
     becomes-stepped (vec_capacity inside.state.replaced) _ _ _ c.self.invariant.0
     c.bring.ensures.capacity c.self.invariant.2
     (subst (λ (all : NetworkState). all.time < all.log.cycles) (sym c.self.view_is) c.requires.time)
-    (stepped-behind inside c.self.invariant.0 c.rows-rows.result rows.goings rows.offers rows.takes
+    (stepped-behind inside c.self.invariant.0 c.rows-rows.result rows.session_starts rows.offers
+    rows.takes
     c.bring.new.self c.bring.ensures rows.events c.enter.new.components rows.tables rows.entering
     c.enter.ensures c.run.new.components c.run.ensures.cycle)
 

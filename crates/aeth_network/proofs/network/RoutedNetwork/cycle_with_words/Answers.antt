@@ -29,7 +29,7 @@ offer-requires-clause-fit g c =
     rw c.deref-2.ensures.value
     (subst (λ (offers : List Offer). AreFit (length inside.state.components.words)
     (length inside.state.components.parts) inside.state.untils.items offers
-    inside.state.components.lanes)
+    inside.state.components.channel_states)
     (sym (words-are inside c.self.invariant.0 brings inside.cursors.offer c.behind-last.result
     c.deref.result.now c.deref-3.result.now c.deref.ensures.value c.deref-3.ensures.value
     c.behind-last.ensures)) (fit-words inside c.self.invariant.0 brings))

@@ -22,7 +22,7 @@ pub take-requires : goal.take-requires
 take-requires c =
     let inside = c.self.inside in
     let first = inside.cursors.take in
-    let here = λ (one : Take). one.number < length inside.state.components.lanes in
+    let here = λ (one : Take). one.number < length inside.state.components.channel_states in
     All-take here (c.place_before-last.result - first) (drop first c.deref-2.result.now)
     (All-drop here first c.deref-2.result.now
     (subst (All here) (sym c.deref-2.ensures.value) c.self.invariant.0.stimuli.takes))

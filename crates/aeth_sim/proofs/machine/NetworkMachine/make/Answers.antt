@@ -2,7 +2,7 @@ use Rattle.std.proofs.Common.{◌≡◌, ◌∙◌, ◌-◌, ◌<◌, length}
 use Rattle.std.proofs.lemmas.Result.{IfOk-weaker}
 use Rattle.aeth_running.proofs.RouterTables.{headers-route}
 use Rattle.aeth_running.specs.{Network.NetworkState, Network.first_network, Network.played}
-use Rattle.aeth_running.specs.{Routing.ByHeaders, Told.told}
+use Rattle.aeth_running.specs.{Routing.ByHeaders, Logged.logged}
 use Rattle.aeth_accepted.specs.Inputs.{inputs_with, run_of}
 use Rattle.aeth_report.specs.RunLog.{log_of}
 use Rattle.aeth_network.proofs.Playing.{first-count, first-left, first-plays}
@@ -14,7 +14,7 @@ returns-clause-plays c =
     let inputs = inputs_with c.args.chip.now c.args.app.now c.args.plan.now c.args.words.now
     c.args.receivers.now c.args.switches.now c.args.cycles in
     IfOk-weaker c.new.result (λ (network : NetworkState). network ≡ first_network inputs ByHeaders)
-    (λ (network : NetworkState). told (played (network.log.cycles - network.time) network)
+    (λ (network : NetworkState). logged (played (network.log.cycles - network.time) network)
     ≡ log_of (run_of inputs))
     (λ network is. first-plays inputs ByHeaders network is
     ∙ c.networks_log.ensures inputs c.requires.accepted ByHeaders (headers-route inputs)) c.new.ensures.first

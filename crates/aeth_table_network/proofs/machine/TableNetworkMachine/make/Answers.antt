@@ -3,7 +3,7 @@ use Rattle.std.proofs.lemmas.Result.{IfOk-weaker}
 use Rattle.aeth_accepted.specs.Inputs.{inputs_with, run_of}
 use Rattle.aeth_report.specs.RunLog.{log_of}
 use Rattle.aeth_running.specs.Network.{NetworkState, first_network, played}
-use Rattle.aeth_running.specs.Told.{told}
+use Rattle.aeth_running.specs.Logged.{logged}
 use Rattle.aeth_table_network.specs.Tables.{tables_of}
 use Rattle.aeth_network.proofs.Playing.{first-count, first-left, first-plays}
 use Rattle.aeth_table_network.proofs.machine.TableNetworkMachine.make.Goals as goal
@@ -14,7 +14,7 @@ returns-clause-plays c =
     let inputs = inputs_with c.args.chip.now c.args.app.now c.args.plan.now c.args.words.now
     c.args.receivers.now c.args.switches.now c.args.cycles in
     IfOk-weaker c.new.result (λ (network : NetworkState). network ≡ first_network inputs (tables_of inputs))
-    (λ (network : NetworkState). told (played (network.log.cycles - network.time) network)
+    (λ (network : NetworkState). logged (played (network.log.cycles - network.time) network)
     ≡ log_of (run_of inputs))
     (λ network is. first-plays inputs (tables_of inputs) network is
     ∙ c.networks_log.ensures inputs c.requires.accepted (tables_of inputs)

@@ -1,7 +1,0 @@
-use Rattle.std.proofs.Common.{take}
-use Rattle.aeth_components.specs.Handing.{HasEvent, Wakes}
-use Rattle.aeth_components.proofs.handing.Handing.wake_for.Given as goal
-
--- Who waits at the interfaces of the events so far is marked.
-abbrev pub invariant-loop-event : goal.invariant-loop-event
-invariant-loop-event l = Wakes (HasEvent (take l.event-index l.events)) l.fn.self l.self

@@ -1,6 +1,0 @@
-use Rattle.aeth_fabric.proofs.WiredLemmas.{is_wired}
-use Rattle.aeth_fabric.proofs.laws.chips_are_wired.Goals as goal
-
--- Each wire has one place on one link.
-pub returns : goal.returns
-returns c = is_wired

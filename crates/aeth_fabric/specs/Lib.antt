@@ -1,3 +1,0 @@
-pub mod Wiring
-pub mod Paths
-pub mod Fabric

@@ -1,4 +1,0 @@
-//! The fabric of accepted inputs: a chip's wires, and the sessions of a plan over them.
-#![tactic(auto)]
-
-pub mod laws;

@@ -1,6 +1,0 @@
-use Rattle.aeth_invariant.proofs.Running.{prepared}
-use Rattle.aeth_invariant.proofs.laws.components_are_prepared.Goals as goal
-
--- Channel by channel.
-pub returns : goal.returns
-returns c = prepared

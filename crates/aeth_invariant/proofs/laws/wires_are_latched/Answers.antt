@@ -1,9 +1,0 @@
-use Rattle.aeth_invariant.proofs.{Arriving.latches, Holding.latched-absorb}
-use Rattle.aeth_invariant.proofs.laws.wires_are_latched.Goals as goal
-
--- Each component takes up its own.
-pub returns-clause-latched : goal.returns-clause-latched
-returns-clause-latched c = latches
-
-pub returns-clause-held : goal.returns-clause-held
-returns-clause-held c = latched-absorb

@@ -1,0 +1,16 @@
+pub mod WirePlaces
+pub mod WireEnds
+pub mod WiredLemmas
+pub mod Flattened
+pub mod PathWires
+pub mod PathRoutersPassed
+pub mod Answering
+pub mod ApartWires
+pub mod Windows
+pub mod FlowPaths
+pub mod CarriedFlits
+pub mod Carrying
+pub mod SessionRows
+pub mod ApartTables
+pub mod WritableRuns
+pub mod RunRoutedSessions
