@@ -1,5 +1,6 @@
 """Each edge of crates.txt is used, and each crate that sources name has an edge."""
 import pathlib
+import re
 import tempfile
 import unittest
 
@@ -10,6 +11,18 @@ from home import TOP
 class Edges(unittest.TestCase):
     def test_each_edge_is_used(self):
         self.assertEqual(list(edges.faults(TOP)), [])
+
+    def test_layers(self):
+        """A crate stands on none of a layer below its own in the map's table, but for those that the map names."""
+        page = (TOP / "docs/ARCHITECTURE.md").read_text()
+        layer, layers = 0, {}
+        for row in re.search(r"(?m)^\| Layer \| Crate .*\n\|[-|]+\n((?:\|.*\n)+)", page)[1].splitlines():
+            name, crates = row.split("|")[1:3]
+            layer += bool(name.strip())
+            layers |= {crate: layer for crate in re.findall(r"\baeth\w*", crates)}
+        stands_on = edges.edges((TOP / "crates.txt").read_text())
+        down = [f"{crate} on {below}" for crate in stands_on for below in stands_on[crate] if layers.get(below, 0) > layers[crate]]
+        self.assertEqual(sorted(down), ["aeth_running on aeth_rtable", "aeth_running on aeth_schedule", "aeth_stimuli on aeth_schedule"])
 
     def test_what_is_no_use(self):
         """A comment and a longer name use nothing; a path in a clause does."""
