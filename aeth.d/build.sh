@@ -3,8 +3,8 @@
 # The crates that the program stands on are copied to a folder of their own, without their wrong bodies, and `rt ci` proves
 # them there: side by side, as many as there are processors and memory. It keeps each crate as soon as it is proved, for
 # all checkouts on this machine, and takes over what it kept before. So a build that was ended goes on where it was, and
-# what a gate or another checkout proved of the same sources isn't proved again. Most crates stand on a few low ones, which
-# stand on each other. These are proved ahead in a run that has no others, and so two processors for each.
+# what a gate or another checkout proved of the same sources isn't proved again. Nearly all crates wait for a chain of low
+# ones. These are proved ahead in a run that has no others, and so two processors for each.
 #
 # What runs afterwards is a copy, `out/aeth`. Beside it stand git's index and a list of the sources that it was built
 # from, and the prover's text where the build failed. The last few programs are kept in the user's cache too, each by the
@@ -56,17 +56,24 @@ weigh() {
     done
 }
 
-# The low crates that are proved ahead: those on which at least half of all stands, by the size of the sources. Of a few KB
-# there are none.
+# The low crates that are proved ahead: the heaviest chain of those on which at least half of all stands, by the size of the
+# sources. All others wait for it. Of a few KB there are none.
 low_crates() {
     awk -v weights="$out/weights.$$" '
         BEGIN { while ((getline line < weights) > 0) { split(line, of, " "); weight[of[1]] = of[2]; all += of[2] } }
-        { split($0, parts, ":"); split(parts[1], words, " "); name = order[NR] = words[1]
+        { split($0, parts, ":"); split(parts[1], words, " "); name = order[NR] = words[1]; stands_on[name] = parts[2]
           count = split(parts[2], list, " ")
           for (i = 1; i <= count; i++) if (list[i] in weight) below[name] = below[name] " " below[list[i]] " " list[i]
           count = split(below[name], list, " "); split("", seen)
           for (i = 1; i <= count; i++) if (!(list[i] in seen)) { seen[list[i]]; above[list[i]] += weight[name] } }
-        END { if (all > 50000) for (i = 1; i <= NR; i++) if (2 * above[order[i]] >= all) print order[i] }
+        END { if (all <= 50000) exit
+              for (i = 1; i <= NR; i++) if (2 * above[order[i]] >= all) {
+                  name = order[i]; count = split(stands_on[name], list, " "); sum = 0; chain[name] = name
+                  for (k = 1; k <= count; k++) if (list[k] in sums && sums[list[k]] > sum) {
+                      sum = sums[list[k]]; chain[name] = chain[list[k]] "\n" name }
+                  sums[name] = sum + weight[name]
+                  if (sums[name] > most) { most = sums[name]; heaviest = name } }
+              if (heaviest) print chain[heaviest] }
     ' "$room/all/crates.txt"
 }
 
