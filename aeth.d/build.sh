@@ -4,7 +4,8 @@
 # them there: side by side, as many as there are processors and memory. It keeps each crate as soon as it is proved, for
 # all checkouts on this machine, and takes over what it kept before. So a build that was ended goes on where it was, and
 # what a gate or another checkout proved of the same sources isn't proved again. Nearly all crates wait for a chain of low
-# ones. These are proved ahead in a run that has no others, and so two processors for each.
+# ones. These are proved ahead in a run that has no others, and so two processors for each. All but the last are proved by
+# as many provers as there are processors, and then a run of all proves the last and builds the program.
 #
 # What runs afterwards is a copy, `out/aeth`. Beside it stand git's index and a list of the sources that it was built
 # from, and the prover's text where the build failed. The last few programs are kept in the user's cache too, each by the
@@ -89,6 +90,33 @@ prove_low() {
     (cd "$room/low" && exec rt ci) </dev/null >/dev/null 2>&1 &
     run=$!
     wait $run
+}
+
+# The crates that stand on less than nine tenths of all others, by the size of the sources. Of a few KB there are none.
+early_crates() {
+    awk -v weights="$out/weights.$$" '
+        BEGIN { while ((getline line < weights) > 0) { split(line, of, " "); weight[of[1]] = of[2]; all += of[2] } }
+        { split($0, parts, ":"); split(parts[1], words, " "); name = words[1]
+          count = split(parts[2], list, " ")
+          for (i = 1; i <= count; i++) if (list[i] in weight) below[name] = below[name] " " below[list[i]] " " list[i]
+          count = split(below[name], list, " "); split("", seen); sum = 0
+          for (i = 1; i <= count; i++) if (!(list[i] in seen)) { seen[list[i]]; sum += weight[list[i]] }
+          if (all > 50000 && 10 * sum < 9 * (all - weight[name])) print name }
+    ' "$room/all/crates.txt"
+}
+
+# Proves the early crates, as many at once as there are processors. `rt ci` by itself has fewer at once where its reckoning
+# of their memory, which is several times what they take, comes to more than there is. The last crates, on which nothing
+# waits, are left to a run of all, which gives each more than one processor.
+prove_early() {
+    early=$(early_crates)
+    if [ -z "$early" ] || [ -n "${RT_JOBS-}" ] || ! has_memory; then return; fi
+    (cd "$room/all" && RT_JOBS=$(getconf _NPROCESSORS_ONLN) && export RT_JOBS && exec rt ci $early) </dev/null >"$log" 2>&1
+}
+
+# Whether there is memory for a prover on each processor, of 3 GB each, which is twice what most take.
+has_memory() {
+    awk -v count="$(getconf _NPROCESSORS_ONLN)" '/^MemAvailable:/ { exit $2 < 3000000 * count }' /proc/meminfo 2>/dev/null
 }
 
 # Whether there are processors to spare while low crates are proved, and memory for two runs.
@@ -245,7 +273,8 @@ build() {
         sleep 2 # so that the low crates are begun there
     fi
     ended=0
-    (cd "$room/all" && exec rt ci) </dev/null >"$log" 2>&1 || ended=$?
+    prove_early || ended=$?
+    [ $ended -ne 0 ] || (cd "$room/all" && exec rt ci) </dev/null >>"$log" 2>&1 || ended=$?
     end_progress
     end_low
     trap - INT TERM HUP

@@ -27,6 +27,13 @@ END
     exit "${STATUS:-3}"
 fi
 case $PWD in */low) echo "ahead: $(echo $(ls crates))" >> "$BUILDS"; exit 0 ;; esac
+if [ -n "$2" ]; then
+    shift
+    echo "early: $*, $RT_JOBS at once" >> "$BUILDS"
+    for crate; do echo "rt: $crate proved"; done
+    [ -z "$EARLY" ] || echo "error[proof]: it is early"
+    exit "${EARLY:-0}"
+fi
 echo built >> "$BUILDS"
 for crate in aeth_base aeth_middle aeth; do
     echo "== $crate"

@@ -127,15 +127,22 @@ class Builds(WithHome):
         self.assertEqual(left, set())
         self.assertLessEqual(set(os.listdir(self.home.top / "out")), {"aeth", "list", "sources"})
 
-    def test_heavy_low_crates_are_proved_ahead(self):
-        """In a run without others, where there are three processors and memory for two runs."""
+    def test_heavy_crates_are_proved_ahead(self):
+        """Low ones in a run without others, where there are three processors and memory for two runs; all but the last by as many
+        provers as there are processors, where there is memory for these."""
         for name, size in (("aeth_base/src/lib", 12_000), ("aeth_middle/src/lib", 12_000), ("aeth/src/main", 60_000)):
             self.home.put(f"crates/{name}.rt", "x" * size + "\n")
         self.home.run("--prove-only", SLOW="1")
         told = self.home.builds.read_text().splitlines()
-        if len(told) == 1 and ((os.cpu_count() or 1) < 3 or os.sysconf("SC_PAGE_SIZE") * os.sysconf("SC_PHYS_PAGES") < 12 << 30):
+        many, memory = os.sysconf("SC_NPROCESSORS_ONLN"), os.sysconf("SC_PAGE_SIZE") * os.sysconf("SC_PHYS_PAGES")
+        if len(told) < 3 and (many < 3 or memory < (4 * many << 30) or memory < 12 << 30):
             self.skipTest("there are two processors, or little memory")
-        self.assertEqual(sorted(told), ["ahead: aeth_base aeth_middle", "built"])
+        self.assertEqual(sorted(told), ["ahead: aeth_base aeth_middle", "built", f"early: aeth_base aeth_middle, {many} at once"])
+        self.main.write_text("y" * 60_000)
+        status, out, said = self.home.run("--prove-only", EARLY="1")
+        self.assertEqual((status, out), (126, ""))
+        self.assertIn("error[proof]: it is early", said)
+        self.assertEqual(self.home.builds.read_text().splitlines()[-1], f"early: aeth_base aeth_middle, {many} at once")
 
     def test_what_was_built_before_is_built_once(self):
         """In this checkout, which goes back to what it was, and in another one."""
