@@ -16,7 +16,7 @@ use Rattle.aeth_check.specs.declared.verdict.Verdict.TheVariants.{Accepted, Miss
 use Rattle.aeth_check.specs.Meetings.{conflicts}
 use Rattle.aeth_check.specs.Seats.{is_one_seat}
 use Rattle.aeth_check.specs.Verdict.{broken_line, broken_pair, conflict, lacking, missing}
-use Rattle.aeth_check.specs.Verdict.{misseated, shared_seat, stranger, stray_path, unfit_slots}
+use Rattle.aeth_check.specs.Verdict.{misseated, shared_seat, stranger, invalid_path, unfit_slots}
 use Rattle.aeth_check.specs.Verdict.{verdict_of}
 use Rattle.aeth_check.proofs.ChannelLaws.{fits_path-Decides, fits_slots-Decides, has_side-Decides}
 use Rattle.aeth_check.proofs.ChannelLaws.{lacking_none, none_lacking}
@@ -86,19 +86,19 @@ record NoneFails (chip : ChipData) (app : AppData) (groups : GroupsData) (plan :
   two : misseated app plan ≡ None
   three : stranger groups plan ≡ None
   four : lacking groups plan ≡ None
-  five : stray_path chip app plan ≡ None
+  five : invalid_path chip app plan ≡ None
   six : unfit_slots chip app plan ≡ None
   seven : conflict chip groups plan ≡ None
 
 none_fails : (chip : ChipData) (app : AppData) (groups : GroupsData) (plan : PlanData)
     → verdict_of chip app groups plan ≡ Accepted → NoneFails chip app groups plan
-unfolding shared_seat misseated stranger lacking stray_path unfit_slots conflict
+unfolding shared_seat misseated stranger lacking invalid_path unfit_slots conflict
 none_fails chip app groups plan accepts =
     let (one, later) = first_or (shared_seat plan) _ (pair_refuses 1 _) accepts in
     let (two, later) = first_or (misseated app plan) _ (line_refuses 2 _) later in
     let (three, later) = first_or (stranger groups plan) _ (line_refuses 3 _) later in
     let (four, later) = first_or (lacking groups plan) _ (missing_refuses _) later in
-    let (five, later) = first_or (stray_path chip app plan) _ (line_refuses 5 _) later in
+    let (five, later) = first_or (invalid_path chip app plan) _ (line_refuses 5 _) later in
     let (six, later) = first_or (unfit_slots chip app plan) _ (line_refuses 6 _) later in
     record {
       one = one;
@@ -122,7 +122,7 @@ member_decides groups grant = ((λ is. is), (λ is. is))
 
 accepted_from : (chip : ChipData) → IsChip chip → (app : AppData) (groups : GroupsData)
     (plan : PlanData) → NoneFails chip app groups plan → IsAccepted chip app groups plan
-unfolding shared_seat misseated stranger lacking stray_path unfit_slots conflict
+unfolding shared_seat misseated stranger lacking invalid_path unfit_slots conflict
 accepted_from chip is_chip app groups plan none =
     let first = first_grant_line plan.seats in record {
       apart = (two_apart is_one_seat IsOneSeat first_seat_line plan.seats is_one_seat-Decides).0
@@ -142,7 +142,7 @@ accepted_from chip is_chip app groups plan none =
 
 none_from : (chip : ChipData) → IsChip chip → (app : AppData) (groups : GroupsData)
     (plan : PlanData) → IsAccepted chip app groups plan → NoneFails chip app groups plan
-unfolding shared_seat misseated stranger lacking stray_path unfit_slots conflict
+unfolding shared_seat misseated stranger lacking invalid_path unfit_slots conflict
 none_from chip is_chip app groups plan accepted =
     let first = first_grant_line plan.seats in record {
       one = ap (broken_pair 1) ((two_apart is_one_seat IsOneSeat first_seat_line plan.seats

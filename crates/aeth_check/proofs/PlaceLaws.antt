@@ -28,13 +28,13 @@ same_node-sym (Ni n) (Router q) = refl
 same_node-sym (Ni n) (Ni m) = eqb-sym n.0 m.0
 
 -- A link that comes to no node from which the path goes on leads nowhere.
-stays_stray : (links : List Link) (b : NiId) (path : List LinkId) (n : ℕ)
+stays_invalid : (links : List Link) (b : NiId) (path : List LinkId) (n : ℕ)
     → ((at : Node) → follows links b at (drop n path) ≡ false)
     → (at : Node) → follows links b at path ≡ false
-stays_stray links b path zero none at = none at
-stays_stray links b [] (suc n) none at = none at
-stays_stray links b (l ∷ path) (suc n) none at =
-    let behind = stays_stray links b path n none in
+stays_invalid links b path zero none at = none at
+stays_invalid links b [] (suc n) none at = none at
+stays_invalid links b (l ∷ path) (suc n) none at =
+    let behind = stays_invalid links b path n none in
     let cases : (found : Option Link) → slice_get links l.0 ≡ found
     → follows links b at (l ∷ path) ≡ false =
     elim [
@@ -60,7 +60,7 @@ module _ (links : List Link) (b : NiId) (path : List LinkId) (left : ℕ) (l : L
   -- The link ends elsewhere than where the path goes on.
   pub ends_elsewhere : (a : NiId) → ends_at next link ≡ false → false ≡ follows links b (Ni a) path
   ends_elsewhere a other =
-      sym (stays_stray links b path (left - 1) (λ at. step at
+      sym (stays_invalid links b path (left - 1) (λ at. step at
       ∙ ap (λ t. begins_at at link && (is_fresh links link.to (drop left path) && t))
       (same_node-sym next link.to ∙ other)
       ∙ ap (λ t. begins_at at link && t) (and-false (is_fresh links link.to (drop left path)))
@@ -70,7 +70,7 @@ module _ (links : List Link) (b : NiId) (path : List LinkId) (left : ℕ) (l : L
   pub comes_again : (a : NiId) → is_fresh links link.to (drop left path) ≡ false
       → false ≡ follows links b (Ni a) path
   comes_again a again =
-      sym (stays_stray links b path (left - 1) (λ at. step at
+      sym (stays_invalid links b path (left - 1) (λ at. step at
       ∙ ap (λ t. begins_at at link && (t && same_node next link.to)) again
       ∙ and-false (begins_at at link)) (Ni a))
 

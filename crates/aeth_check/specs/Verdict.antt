@@ -50,8 +50,8 @@ lacking groups plan = missing (first_lacking plan.grants (units_of groups))
 
 -- Rule 5: a path isn't admissible from the sender's interface to the receiver's, or one of the two
 -- isn't seated.
-unfoldable pub stray_path : ChipData → AppData → PlanData → Option Verdict
-stray_path chip app plan = broken_line 5
+unfoldable pub invalid_path : ChipData → AppData → PlanData → Option Verdict
+invalid_path chip app plan = broken_line 5
     (first_line (λ grant. not (fits_path chip app plan.seats grant
     (slice_get app.connections grant.unit.conn.0))) (first_grant_line plan.seats) plan.grants)
 
@@ -73,7 +73,7 @@ first_broken_rule chip app groups plan =
     (option_or (misseated app plan)
     (option_or (stranger groups plan)
     (option_or (lacking groups plan)
-    (option_or (stray_path chip app plan)
+    (option_or (invalid_path chip app plan)
     (option_or (unfit_slots chip app plan)
     (conflict chip groups plan))))))
 

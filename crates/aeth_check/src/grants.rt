@@ -3,7 +3,7 @@ ghost use Rattle.aeth_app.specs.App.{IsWish, wish_of};
 ghost use Rattle.aeth_check.specs.Calls.{IsWithin};
 ghost use Rattle.aeth_check.specs.Channels.{fits_path, fits_slots};
 ghost use Rattle.aeth_check.specs.Firsts.{first_line};
-ghost use Rattle.aeth_check.specs.Verdict.{stray_path, unfit_slots};
+ghost use Rattle.aeth_check.specs.Verdict.{invalid_path, unfit_slots};
 ghost use Rattle.aeth_chip.specs.Chip.{IsChip};
 ghost use Rattle.std.specs.Prelude.{◌≡◌, ◌<◌, All, length, not, slice_get};
 
@@ -68,7 +68,7 @@ fn fits_slots(chip: &Chip, app: &App, grant: &Grant) -> bool
 }
 
 /// The line of the first grant whose path doesn't lead from the sender's seat to the receiver's.
-fn first_stray(
+fn first_invalid(
     chip: &Chip,
     app: &App,
     distances: &Distances,
@@ -94,8 +94,8 @@ fn first_stray(
 
 /// Rule 5: a path isn't admissible from the sender's interface to the receiver's, or one of the two
 /// isn't seated.
-#[tactic(auto, unfolding(crate::specs::Verdict::stray_path))]
-pub(crate) fn stray_path(
+#[tactic(auto, unfolding(crate::specs::Verdict::invalid_path))]
+pub(crate) fn invalid_path(
     chip: &Chip,
     app: &App,
     distances: &Distances,
@@ -106,10 +106,10 @@ pub(crate) fn stray_path(
     requires distances { distances.now ≡ chip.now.links }
     requires seating { seating.now ≡ plan.now.seats }
     requires grants { All (IsWithin chip.now app.now) plan.now.grants }
-    ensures { result ≡ stray_path chip.now app.now plan.now }
+    ensures { result ≡ invalid_path chip.now app.now plan.now }
 {
     let first = grants_begin(plan);
-    let line = first_stray(chip, app, distances, seating, first, plan.grants())?;
+    let line = first_invalid(chip, app, distances, seating, first, plan.grants())?;
     Some(Verdict::Broken {
         rule: 5,
         line,

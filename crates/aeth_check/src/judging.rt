@@ -1,6 +1,6 @@
 // The check of a plan: its rules one after the other.
 ghost use Rattle.aeth_check.specs.Calls.{IsPlaced, IsWithin};
-ghost use Rattle.aeth_check.specs.Verdict.{conflict, lacking, misseated, stranger, stray_path};
+ghost use Rattle.aeth_check.specs.Verdict.{conflict, lacking, misseated, stranger, invalid_path};
 ghost use Rattle.aeth_check.specs.Verdict.{unfit_slots, verdict_of};
 ghost use Rattle.aeth_chip.specs.Chip.{IsChip};
 ghost use Rattle.aeth_group.specs.Members.{groups_of};
@@ -12,7 +12,7 @@ ghost use Rattle.std.specs.Prelude.{◌≡◌, ◌↔◌, All, IfOk, length, unw
 
 use crate::channels::{lacking, stranger};
 use crate::conflicts::conflict;
-use crate::grants::{stray_path, unfit_slots};
+use crate::grants::{invalid_path, unfit_slots};
 use crate::seating::Seating;
 use crate::seats::{misseated, shared_seat};
 use crate::verdict::Verdict;
@@ -65,7 +65,7 @@ fn judge_seated(
         ≡ unwrap_or (option_or (misseated app.now plan.now)
         (option_or (stranger groups.now plan.now)
         (option_or (lacking groups.now plan.now)
-        (option_or (stray_path chip.now app.now plan.now)
+        (option_or (invalid_path chip.now app.now plan.now)
         (option_or (unfit_slots chip.now app.now plan.now)
         (conflict chip.now groups.now plan.now)))))) Verdict.Accepted) }
 {
@@ -79,7 +79,7 @@ fn judge_seated(
         return Ok(verdict);
     }
     let distances = Distances::of(alloc, chip)?;
-    if let Some(verdict) = stray_path(chip, app, &distances, seating, plan) {
+    if let Some(verdict) = invalid_path(chip, app, &distances, seating, plan) {
         return Ok(verdict);
     }
     judge_slots(alloc, chip, app, groups, plan)

@@ -1,8 +1,8 @@
 use Rattle.std.proofs.Common.{◌≡◌, drop, not, slice_get}
 use Rattle.aeth_check.specs.{Firsts.first_line, Channels.fits_path}
-use Rattle.aeth_check.proofs.grants.first_stray.Given as goal
+use Rattle.aeth_check.proofs.grants.first_invalid.Given as goal
 
--- The first stray path is among those that are left.
+-- The first invalid path is among those that are left.
 abbrev pub invariant-loop-grant : goal.invariant-loop-grant
 invariant-loop-grant l =
     first_line (λ grant. not (fits_path l.chip l.app l.seating grant

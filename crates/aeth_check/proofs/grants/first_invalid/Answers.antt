@@ -3,7 +3,7 @@ use Rattle.std.proofs.lemmas.List.{drop_more}
 use Rattle.aeth_group.specs.declared.grant.Grant.{Grant}
 use Rattle.aeth_check.specs.Channels.{fits_path}
 use Rattle.aeth_check.proofs.MeetingLaws.{line_here, line_on}
-use Rattle.aeth_check.proofs.grants.first_stray.Goals as goal
+use Rattle.aeth_check.proofs.grants.first_invalid.Goals as goal
 
 -- The line of this grant is the first.
 pub returns-then-not-fits_path : goal.returns-then-not-fits_path
