@@ -116,7 +116,7 @@ module _ (links : List Link) (routers places : ℕ) (placed : HasPlaces links ro
       omega arith)
 
   -- The entry of an interface.
-  row_between : (a : NiId) → IsDistance links a b (entry_in (slice_get levels (routers + a.0)))
+  pub row_between : (a : NiId) → IsDistance links a b (entry_in (slice_get levels (routers + a.0)))
   row_between a =
       row_least (IsPath links a b) levels (routers + a.0)
       (λ path has. walk_bound (Ni a) has.routers path has.joins (inr has.some))
@@ -147,7 +147,7 @@ reaches_by S T routers goal steps n place reaches = record {
   count = reaches.count;
 }
 
-levels_by : (S T : ℕ → ℕ → Type 0) (routers goal places : ℕ) (levels : List (Option ℕ))
+pub levels_by : (S T : ℕ → ℕ → Type 0) (routers goal places : ℕ) (levels : List (Option ℕ))
     → ((p q : ℕ) → S p q → T p q) → ((p q : ℕ) → T p q → S p q)
     → AreLevels S routers goal places levels → AreLevels T routers goal places levels
 levels_by S T routers goal places levels there back row = record {

@@ -1,11 +1,11 @@
 -- Laws of the sets of the places from which a link leads to a place.
 use Rattle.std.proofs.Common.{◌≡◌, ◌≢◌, ◌⊎◌, ◌∙◌, ◌+◌, ◌*◌, ◌%◌, ◌^◌, ◌<◌, ◌≤◌, ◌++◌, ℕ, List, [], ◌∷◌}
 use Rattle.std.proofs.Common.{length, take, get_or, set, length-set, sym, ap, subst, inl, inr}
-use Rattle.std.proofs.Common.{arith, bit_or}
+use Rattle.std.proofs.Common.{Some, arith, bit_or}
 use Rattle.std.specs.Prelude.{slice_index}
 use Rattle.std.specs.Int.{bit_at, w128}
 use mir.Val.{bits}
-use Rattle.std.proofs.lemmas.Bool.{cases_eq}
+use Rattle.std.proofs.lemmas.{Bool.cases_eq, Option.slice_get-get_or}
 use Rattle.std.proofs.lemmas.List.{get_or_default, get_or-set_other, get_or-set_same, take_more}
 use Rattle.std.proofs.lemmas.List.Elements.{Contains-append_left, Contains-push}
 use Rattle.std.proofs.lemmas.List.Elements.{Contains-push_cases}
@@ -15,7 +15,7 @@ use Rattle.aeth_chip.specs.declared.node.Node.{Node}
 use Rattle.aeth_chip.specs.declared.node.Node.TheVariants.{Router, Ni}
 use Rattle.aeth_chip.specs.Levels.{AreOrigins, Enters, HasPlace, HasPlaces, IsOrigin, IsLinkStep}
 use Rattle.aeth_chip.specs.Levels.{node_place}
-use Rattle.aeth_chip.specs.Limits.{max_places}
+use Rattle.aeth_chip.specs.{Chip.ChipData, Chip.IsChip, Chip.IsNode, Limits.max_places}
 
 -- A set with a place more.
 abbrev pub with_place : ℕ → ℕ → ℕ
@@ -131,3 +131,19 @@ origin_below routers places links origins le placed are from to has =
     let leads = are.only from to has in
     subst (λ (p : ℕ). p < places) leads.step.begins
     (place_below routers places leads.link.from le (placed leads.link leads.has).0)
+
+-- A node of a chip has a place.
+node_placed : (routers nis : List (List ℕ)) (places : ℕ) → length routers + length nis ≤ places
+    → (node : Node) → IsNode routers nis node → HasPlace (length routers) places node
+node_placed routers nis places few (Router r) is = is
+node_placed routers nis places few (Ni n) is = omega arith
+
+-- The ends of the links of a chip have places.
+pub links_placed : (chip : ChipData) → IsChip chip → (places : ℕ)
+    → length chip.routers + length chip.nis ≤ places
+    → HasPlaces chip.links (length chip.routers) places
+links_placed chip is_chip places few link (i, within, is) =
+    let its = is_chip.links i link (slice_get-get_or chip.links i link within ∙ ap Some is) in (
+      node_placed chip.routers chip.nis places few link.from its.from,
+      node_placed chip.routers chip.nis places few link.to its.to,
+    )

@@ -1,19 +1,24 @@
 -- Laws of the summary of a chip: what one more interface adds, what a loop over all pairs keeps,
 -- and how many pairs have no path at most.
 use Rattle.std.proofs.Common.{◌≡◌, ◌∙◌, ◌+◌, ◌*◌, ◌<◌, ◌≤◌, ◌++◌, ℕ, zero, suc, cond, max, List, []}
-use Rattle.std.proofs.Common.{◌∷◌, Option, Some, None, length, sym, ap, add-one, append_assoc}
-use Rattle.std.proofs.Common.{length-append, arith, count_by, fold, filter_map, flat_map}
-use Rattle.std.proofs.Common.{append-nil}
+use Rattle.std.proofs.Common.{◌∷◌, Option, Some, None, length, sym, ap, subst, add-one}
+use Rattle.std.proofs.Common.{append_assoc, length-append, arith, count_by, fold, filter_map}
+use Rattle.std.proofs.Common.{flat_map, slice_get, append-nil}
 use Rattle.std.proofs.lemmas.List.{flat_map_more, length-map, Elements.filter_map-append}
 use Rattle.std.proofs.lemmas.List.{FromFn.length-range_with_len, FromFn.map-range_with_len_more}
 use Rattle.std.proofs.lemmas.List.{Sums.count_by-le-length, Sums.fold-append}
 use Rattle.std.proofs.Math.Nat.{mul-le-mul}
 use Rattle.std.specs.{List.range_with_len, Option.is_none}
-use Rattle.aeth_base.proofs.Ranges.{range_with_len-more}
-use Rattle.aeth_chip.specs.{declared.chip.TheConstants.MAX_NIS, Chip.ChipData}
-use Rattle.aeth_chip.specs.{LeastDistance.least_distance, Summary.distances_to}
+use Rattle.aeth_base.{proofs.Ranges.range_with_len-more, specs.declared.ids.NiId.NiId}
+use Rattle.aeth_chip.specs.{declared.chip.TheConstants.MAX_NIS, Chip.ChipData, Chip.IsChip}
+use Rattle.aeth_chip.specs.{Distances.entry_in, LeastDistance.least_distance, Levels.AreLevels}
+use Rattle.aeth_chip.specs.{Levels.AreOrigins, Levels.HasLinkStep, Levels.IsOrigin}
+use Rattle.aeth_chip.specs.{Limits.max_places, Paths.IsDistance, Summary.distances_to}
 use Rattle.aeth_chip.specs.{Summary.distances_among, Summary.distances_of, Summary.greatest_of}
 use Rattle.aeth_chip.specs.{Summary.far_of, Summary.unreached_of}
+use Rattle.aeth_chip.proofs.DistanceLemmas.{levels_by, row_between}
+use Rattle.aeth_chip.proofs.LeastDistanceLemmas.{distance_is_least_distance}
+use Rattle.aeth_chip.proofs.OriginLemmas.{links_placed}
 
 -- One more number that is there.
 pub greatest_of-some : (numbers : List (Option ℕ)) (number : ℕ)
@@ -150,6 +155,25 @@ summary-row chip b a far unreached before last =
       far_is = before.far_is ∙ ap greatest_of same;
       unreached_is = before.unreached_is ∙ ap (count_by is_none) same;
     }
+
+-- A level before an interface of a chip is the least number of links.
+pub level-least : (chip : ChipData) → IsChip chip → (origins : List ℕ)
+    → AreOrigins chip.links (length chip.routers) max_places origins → (a b : NiId)
+    → b.0 < length chip.nis → (levels : List (Option ℕ))
+    → AreLevels (IsOrigin origins) (length chip.routers) (length chip.routers + b.0) max_places
+    levels
+    → (least : Option ℕ) → slice_get levels (length chip.routers + a.0) ≡ Some least
+    → least ≡ least_distance chip a b
+level-least chip is_chip origins are a b within levels found least at =
+    let routers = length chip.routers in
+    let few = is_chip.routers in
+    let fewer = is_chip.nis in
+    let row = levels_by (IsOrigin origins) (HasLinkStep chip.links routers) routers
+    (routers + b.0) max_places levels are.only are.each found in
+    let distance = row_between chip.links routers max_places
+    (links_placed chip is_chip max_places (omega arith)) b levels row (omega arith) a in
+    distance_is_least_distance chip is_chip a b least
+    (subst (λ (o : Option (Option ℕ)). IsDistance chip.links a b (entry_in o)) at distance)
 
 -- The summary of all pairs.
 pub record IsSummary (chip : ChipData) (far unreached : ℕ) : Type 0 where

@@ -130,6 +130,14 @@ impl Chip {
         self.links.len() as u32
     }
 
+    /// The links in file order.
+    pub(crate) fn all_links(&self) -> &[Link]
+        ensures links { result.now ≡ self.now.links }
+        ensures chip { IsChip self.now }
+    {
+        &self.links
+    }
+
     /// A link by its number.
     pub fn link(&self, link: LinkId) -> Link
         requires { link.0 < length self.now.links }

@@ -8,7 +8,7 @@ ghost use Rattle.aeth_chip.specs.Paths.{IsDistance, IsOnwardDistance};
 use crate::chip::Chip;
 use crate::levels::{levels_to, origins_of};
 use crate::node::Link;
-use aeth_base::{LinkId, NiId, NoMemory, RouterId};
+use aeth_base::{NiId, NoMemory, RouterId};
 use std::alloc::Global;
 use std::marker::Model;
 
@@ -43,7 +43,7 @@ impl Distances {
     pub fn of(alloc: Global, chip: &Chip) -> Result<Distances, NoMemory>
         ensures { IfOk result (λ distances. distances ≡ chip.now.links) }
     {
-        let links = links_of(alloc, chip)?;
+        let links = chip.all_links().to_vec(alloc)?;
         Distances::over(alloc, chip.routers(), chip.nis(), links)
     }
 
@@ -149,17 +149,4 @@ fn add_levels(
     let levels = levels_to(alloc, origins, routers, goal)?;
     rows.push(levels)?;
     Ok(())
-}
-
-// The links of a chip, whose ends have places.
-fn links_of(alloc: Global, chip: &Chip) -> Result<Vec<Link>, NoMemory>
-    ensures links { IfOk result (λ links. links.items ≡ chip.now.links) }
-    ensures places { IfOk result (λ links. HasPlaces links.items (length chip.now.routers)
-        (length chip.now.routers + length chip.now.nis)) }
-{
-    let mut links = Vec::with_capacity(alloc, chip.links() as usize)?;
-    for l in 0..chip.links() {
-        links.push(chip.link(LinkId(l)))?;
-    }
-    Ok(links)
 }

@@ -1,17 +1,22 @@
 // The search in levels: the least numbers of links to a place of a chip, from all its places. A set
 // of places is a mask, with a bit for each place.
-ghost use Rattle.std.specs.Prelude.{◌≡◌, ◌<◌, ◌≤◌, ◌+◌, ℕ, IfOk, None, length, replicate};
+ghost use Rattle.std.specs.Prelude.{◌≡◌, ◌<◌, ◌≤◌, ◌+◌, ℕ, IfOk, None, Some, length, replicate};
+ghost use Rattle.std.specs.Prelude.{slice_get};
 ghost use Rattle.aeth_chip.specs.Levels.{AreLevels, AreOrigins, Enters, HasBit, HasPlaces, IsOrigin};
 ghost use Rattle.aeth_chip.specs.Levels.{IsLedFrom, LeadsTo, MarksFrom, MarksLevel, node_place};
 ghost use Rattle.aeth_chip.specs.Limits.{max_places};
 ghost use Rattle.aeth_chip.specs.Levels.{half_places};
 
+use crate::chip::{Chip, MAX_NIS, MAX_ROUTERS};
 use crate::node::{Link, Node};
 use aeth_base::NoMemory;
 use std::alloc::Global;
 
 // The first place of the upper half of a mask.
 const HALF: usize = 64;
+
+/// The most places of a chip.
+pub(crate) const MAX_PLACES: usize = (MAX_ROUTERS + MAX_NIS) as usize;
 
 // The place of a node in a row: the routers come first, then the interfaces.
 fn node_place(node: Node, routers: u32) -> usize
@@ -39,6 +44,15 @@ pub(crate) fn origins_of(
     let mut origins = vec![in alloc; 0; places]?;
     enter_all(&mut origins, links, routers);
     Ok(origins)
+}
+
+/// The same of a chip, for as many places as a chip may have.
+pub(crate) fn origins_in(chip: &Chip) -> [u128; MAX_PLACES]
+    ensures { AreOrigins chip.now.links (length chip.now.routers) max_places result }
+{
+    let mut origins = [0; MAX_PLACES];
+    enter_all(&mut origins, chip.all_links(), chip.routers());
+    origins
 }
 
 // Enters each link.
@@ -87,6 +101,30 @@ pub(crate) fn levels_to(
     let mut levels = vec![in alloc; None; origins.len()]?;
     search(origins, routers, goal, &mut levels);
     Ok(levels)
+}
+
+/// The same for as many places as a chip may have.
+pub(crate) fn levels_before(
+    origins: &[u128; MAX_PLACES],
+    routers: u32,
+    goal: usize,
+) -> [Option<u32>; MAX_PLACES]
+    requires goal { goal < max_places }
+    requires routers { routers ≤ goal }
+    requires places { (from to : ℕ) → IsOrigin origins.now from to → from < max_places }
+    ensures { AreLevels (IsOrigin origins.now) routers goal max_places result }
+{
+    let mut levels = [None; MAX_PLACES];
+    search(origins, routers, goal, &mut levels);
+    levels
+}
+
+/// The level of a place.
+pub(crate) fn level_at(levels: &[Option<u32>], place: usize) -> Option<u32>
+    requires { place < length levels.now }
+    ensures { slice_get levels.now place ≡ Some result }
+{
+    levels[place]
 }
 
 // Gives each place its level before a goal, where none has one yet.

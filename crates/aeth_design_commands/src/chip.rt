@@ -9,7 +9,7 @@ ghost use Rattle.std.specs.Prelude.{◌≡◌, IfOk, IfSome, map, string_bytes};
 use crate::command::DesignCommand;
 use aeth_answers::{Answer, FileName, Stop, ended, push_count};
 use aeth_base::NoMemory;
-use aeth_chip::{Chip, Distances, Summary};
+use aeth_chip::{Chip, Summary};
 use aeth_files::read_chip_file;
 use aeth_io::Shelf;
 use std::alloc::Global;
@@ -45,8 +45,7 @@ fn summed_up(alloc: Global, chip: &Chip) -> Result<Answer, NoMemory>
 fn chip_line(alloc: Global, chip: &Chip) -> Result<Vec<u8>, NoMemory>
     ensures { IfOk result (λ text. text.items ≡ chip_text chip.now) }
 {
-    let distances = Distances::of(alloc, chip)?;
-    let summary = Summary::of(chip, &distances);
+    let summary = Summary::of(chip);
     let mut text = Vec::new(alloc);
     push_count(&mut text, "chip slots ", chip.slots())?;
     push_count(&mut text, " routers ", chip.routers())?;
