@@ -36,6 +36,7 @@ use crate::forwarding::note_forwarding;
 use crate::landing::land;
 use crate::making::{RouterKind, parts_of};
 use crate::parts::enter_all;
+use crate::phases::switch;
 use crate::replacing::{lose, pass_on, set};
 use crate::sending::next_among;
 use crate::turns::Turns;
