@@ -4,9 +4,17 @@ use Rattle.std.proofs.Common.{arith}
 use Rattle.std.proofs.lemmas.List.{get_or_default, same_lists}
 use Rattle.std.proofs.lemmas.List.FromFn.{get_or-map-range_with_len, length-map-range_with_len}
 use Rattle.aeth_base.specs.Limits.{max_link_delay, max_slots}
-use Rattle.aeth_paths.specs.Costs.{AreCosts, cost_count, price, used_count}
-use Rattle.aeth_app.specs.declared.connection.Price.{Price}
+use Rattle.aeth_paths.specs.Costs.{AreCosts, HasOneAnswer, cost_count, price, used_count}
+use Rattle.aeth_app.specs.declared.connection.Price.{Price, TheVariants.Hops, TheVariants.Pressure}
 use Rattle.aeth_alloc.specs.Prices.{cost_by, prices_of, table_of}
+
+-- Answers that are a price's are one, from 1 to the greatest cost.
+pub HasOneAnswer-cost : (its : Price) (d u : ℕ) → u ≤ max_slots → {gives : ℕ → Type 0}
+    → ((answer : ℕ) → gives answer → answer ≡ cost_by its d u) → HasOneAnswer gives
+HasOneAnswer-cost Hops d u few only =
+    record { answer = 1; only = only; some = omega arith; most = omega arith }
+HasOneAnswer-cost Pressure d u few only =
+    record { answer = 1 + u; only = only; some = omega arith; most = omega arith }
 
 -- A table whose answers are those of a function is the table of this function.
 same-table : (table : List ℕ) (cost : ℕ → ℕ → ℕ) → AreCosts table

@@ -10,8 +10,9 @@ ghost use Rattle.aeth_alloc.specs.Refusals.{LacksOnlyRefused, RefusesExactly};
 
 use crate::channels::Design;
 use crate::outcome::Outcome;
+use crate::prices::{cost_by, priced};
 use crate::turns::State;
-use aeth_app::{App, Price};
+use aeth_app::App;
 use aeth_base::NoMemory;
 use aeth_chip::{Chip, Distances};
 use aeth_group::Groups;
@@ -41,18 +42,9 @@ pub fn allocate(alloc: Global, chip: &Chip, app: &App, groups: &Groups) -> Resul
     ensures accepted { IfOk result (λ outcome. outcome.refused ≡ []
         → IsAccepted chip.now app.now groups.now outcome.plan) }
 {
-    match app.price() {
-        Price::Hops => allocate_with(alloc, chip, app, groups, &Cost::new(|_delay, _used| 1)),
-        Price::Pressure => {
-            allocate_with(
-                alloc,
-                chip,
-                app,
-                groups,
-                &Cost::new(|_delay, used| 1 + used),
-            )
-        }
-    }
+    let price = app.price();
+    let cost = priced(price, move |delay, used| cost_by(price, delay, used));
+    allocate_with(alloc, chip, app, groups, &cost)
 }
 
 /// The same where links cost what a function of their delay and their used slots says.

@@ -6,6 +6,7 @@ mod attempts;
 mod channels;
 pub mod laws;
 mod outcome;
+mod prices;
 mod tries;
 mod turns;
 

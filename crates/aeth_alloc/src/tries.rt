@@ -13,8 +13,9 @@ ghost use Rattle.aeth_alloc.specs.Turns.{after_turn};
 use crate::attempts::Try;
 use crate::channels::Design;
 use crate::outcome::Refused;
+use crate::prices::{cost_by, priced};
 use crate::turns::State;
-use aeth_app::{App, Price};
+use aeth_app::App;
 use aeth_base::NoMemory;
 use aeth_book::Book;
 use aeth_chip::{Chip, Distances};
@@ -108,19 +109,9 @@ impl Tries {
             tries ≡ trials_of chip.now app.now groups.now (prices_of app.now.price)) }
         ensures fit { IfOk result (All (IsTrialOf chip.now)) }
     {
-        match app.price() {
-            Price::Hops => tries_with(alloc, chip, far, app, groups, &Cost::new(|_delay, _used| 1)),
-            Price::Pressure => {
-                tries_with(
-                    alloc,
-                    chip,
-                    far,
-                    app,
-                    groups,
-                    &Cost::new(|_delay, used| 1 + used),
-                )
-            }
-        }
+        let price = app.price();
+        let cost = priced(price, move |delay, used| cost_by(price, delay, used));
+        tries_with(alloc, chip, far, app, groups, &cost)
     }
 
     /// How many there are.

@@ -1,10 +1,9 @@
 -- When a router, a stage, or a component of any kind rests.
-use Rattle.std.proofs.Common.{◌≡◌, ◌↔◌, ◌∙◌, ℕ, sym, ap, List, length, map, replicate, Option, None}
+use Rattle.std.proofs.Common.{◌≡◌, ◌↔◌, ◌∙◌, ℕ, Bool, IsTrue, false, sym, ap, List, length, map}
+use Rattle.std.proofs.Common.{replicate, Option, None}
 use Rattle.aeth_clocked.specs.{Resting.HasNoFlit, Resting.RestsDrive, Resting.RestsLatch}
 use Rattle.aeth_clocked.specs.{Wires.flit_on, declared.flit.Flit.Flit}
 use Rattle.aeth_clocked.proofs.WiresLemmas.{HasNoFlit-one}
-use Rattle.aeth_ni.specs.Component.{interface_after, interface_emit, interface_outputs}
-use Rattle.aeth_ni.specs.Interface.{InterfaceState}
 use Rattle.aeth_router.specs.Part.{after_of, emit_of, outputs_of}
 use Rattle.aeth_router.specs.Router.{RouterState, emitted_on, is_among, router_absorb, router_after}
 use Rattle.aeth_router.specs.Router.{router_emit, router_inputs, router_outputs}
@@ -13,7 +12,6 @@ use Rattle.aeth_router.specs.Stage.{stage_outputs}
 use Rattle.aeth_router.specs.TableRouter.{TableRouterState, table_absorb, table_after, table_emit}
 use Rattle.aeth_router.specs.TableRouter.{table_inputs, table_outputs}
 use Rattle.aeth_router.specs.declared.part.Part.{Part}
-use Rattle.aeth_router.specs.declared.part.Part.TheVariants.{Interface, Router, Stage, TableRouter}
 use Rattle.aeth_router.proofs.IdleLemmas.{HasNoFlit-map, emitted_on-idle}
 use Rattle.aeth_router.proofs.TableLemmas.{table_emit-idle}
 
@@ -127,71 +125,39 @@ module _ (stage : StageState) (wires : List (Option Flit)) where
         )),
   )
 
--- The component of a kind, where it is of that kind.
-abbrev interface_in : InterfaceState → Part → InterfaceState
-interface_in other (Interface ni) = ni
-interface_in other (Router router) = other
-interface_in other (TableRouter router) = other
-interface_in other (Stage stage) = other
+-- A component rests just where it holds nothing and its links are empty. Where it holds nothing, a
+-- test of its links tells.
+pub rests-empty : {Holds Empty Rests : Type 0} {is : Bool} → ((Holds × Empty) ↔ Rests) → Holds
+    → (IsTrue is ↔ Empty) → IsTrue is ↔ Rests
+rests-empty rests holds empty =
+    ((λ told. rests.0 (holds, empty.0 told)), (λ resting. empty.1 (rests.1 resting).1))
 
-abbrev router_in : RouterState → Part → RouterState
-router_in other (Interface ni) = other
-router_in other (Router router) = router
-router_in other (TableRouter router) = other
-router_in other (Stage stage) = other
+-- Where it holds something, a test of that tells.
+pub rests-none : {Holds Empty Rests : Type 0} {is : Bool} → ((Holds × Empty) ↔ Rests) → is ≡ false
+    → (IsTrue is ↔ Holds) → IsTrue is ↔ Rests
+rests-none rests isnt holds =
+    ((λ is. absurd (cc (sym isnt ∙ is))), (λ resting. holds.1 (rests.1 resting).0))
 
-abbrev table_router_in : TableRouterState → Part → TableRouterState
-table_router_in other (Interface ni) = other
-table_router_in other (Router router) = other
-table_router_in other (TableRouter router) = router
-table_router_in other (Stage stage) = other
-
--- An interface or a router of either kind among components of any kind rests just where it does alone.
-module _ (wires : List (Option Flit)) where
-  pub drives-interface : (cycle : ℕ) (ni : InterfaceState)
-      → RestsDrive interface_outputs interface_emit interface_after cycle wires ni
-      ↔ RestsDrive outputs_of emit_of after_of cycle wires (Interface ni)
-  drives-interface cycle ni = (
-    (λ rests. record {
-      silent = rests.silent;
-      still = ap (λ ni. Interface ni) rests.still;
-      empty = rests.empty;
-    }),
-    (λ rests. record {
-      silent = rests.silent;
-      still = ap (interface_in ni) rests.still;
-      empty = rests.empty;
-    }),
-  )
-
-  pub drives-router : (cycle : ℕ) (router : RouterState)
-      → RestsDrive router_outputs router_emit router_after cycle wires router
-      ↔ RestsDrive outputs_of emit_of after_of cycle wires (Router router)
-  drives-router cycle router = (
-    (λ rests. record {
-      silent = rests.silent;
-      still = ap (λ router. Router router) rests.still;
-      empty = rests.empty;
-    }),
-    (λ rests. record {
-      silent = rests.silent;
-      still = ap (router_in router) rests.still;
-      empty = rests.empty;
-    }),
-  )
-
-  pub drives-table-router : (cycle : ℕ) (router : TableRouterState)
-      → RestsDrive table_outputs table_emit table_after cycle wires router
-      ↔ RestsDrive outputs_of emit_of after_of cycle wires (TableRouter router)
-  drives-table-router cycle router = (
-    (λ rests. record {
-      silent = rests.silent;
-      still = ap (λ router. TableRouter router) rests.still;
-      empty = rests.empty;
-    }),
-    (λ rests. record {
-      silent = rests.silent;
-      still = ap (table_router_in router) rests.still;
-      empty = rests.empty;
-    }),
-  )
+-- A component among those of any kind rests just where it does alone. `of` makes it one of them,
+-- and keeps components apart.
+pub drives-among : {P : Type 0} {outputs : P → ℕ → Bool} {emit : P → ℕ → ℕ → Option Flit}
+    {after : P → ℕ → P} {cycle : ℕ} {wires : List (Option Flit)} {one : P} {is : Bool}
+    (of : P → Part) → ((some other : P) → of some ≡ of other → some ≡ other)
+    → outputs_of (of one) ≡ outputs one → emit_of (of one) ≡ emit one
+    → after_of (of one) cycle ≡ of (after one cycle)
+    → (IsTrue is ↔ RestsDrive outputs emit after cycle wires one)
+    → IsTrue is ↔ RestsDrive outputs_of emit_of after_of cycle wires (of one)
+drives-among {P} {outputs} {emit} {after} {cycle} {wires} {one} of apart sends emits left told = (
+  (λ is.
+      let rests = told.0 is in
+      record {
+        silent = λ link is. rw emits (rests.silent link (rw sends at is));
+        still = left ∙ ap of rests.still;
+        empty = rw sends rests.empty;
+      }),
+  (λ rests. told.1 (record {
+    silent = λ link is. rw emits at (rests.silent link (rw sends is));
+    still = apart (after one cycle) one (sym left ∙ rests.still);
+    empty = rw sends at rests.empty;
+  })),
+)

@@ -1,4 +1,6 @@
-use Rattle.aeth_router.proofs.RestingLemmas.{drives-interface, drives-router, drives-table-router}
+use Rattle.std.proofs.Common.{refl}
+use Rattle.aeth_router.specs.declared.part.Part.TheVariants.{Interface, Router, TableRouter}
+use Rattle.aeth_router.proofs.RestingLemmas.{drives-among}
 use Rattle.aeth_router.proofs.part.PartClocked.rests_drive.Goals as goal
 
 -- The wires of an interface are wires.
@@ -20,24 +22,15 @@ rests_drive-requires-in-Stage c = rw c.in-Stage.is at c.requires
 -- It rests as the component that it is.
 pub returns-in-Interface : goal.returns-in-Interface
 returns-in-Interface c =
-    let of = drives-interface c.args.wires.now c.args.cycle c.in-Interface.ni in
-    rw c.in-Interface.is (
-      (λ is. of.0 (c.rests_drive.ensures.0 is)),
-      (λ rests. c.rests_drive.ensures.1 (of.1 rests)),
-    )
+    rw c.in-Interface.is (drives-among (λ ni. Interface ni) (λ some other same. cc) refl refl refl
+    c.rests_drive.ensures)
 
 pub returns-in-Router : goal.returns-in-Router
 returns-in-Router c =
-    let of = drives-router c.args.wires.now c.args.cycle c.in-Router.router in
-    rw c.in-Router.is (
-      (λ is. of.0 (c.rests_drive-in-Router.ensures.0 is)),
-      (λ rests. c.rests_drive-in-Router.ensures.1 (of.1 rests)),
-    )
+    rw c.in-Router.is (drives-among (λ router. Router router) (λ some other same. cc) refl refl refl
+    c.rests_drive-in-Router.ensures)
 
 pub returns-in-TableRouter : goal.returns-in-TableRouter
 returns-in-TableRouter c =
-    let of = drives-table-router c.args.wires.now c.args.cycle c.in-TableRouter.router in
-    rw c.in-TableRouter.is (
-      (λ is. of.0 (c.rests_drive-in-TableRouter.ensures.0 is)),
-      (λ rests. c.rests_drive-in-TableRouter.ensures.1 (of.1 rests)),
-    )
+    rw c.in-TableRouter.is (drives-among (λ router. TableRouter router) (λ some other same. cc) refl
+    refl refl c.rests_drive-in-TableRouter.ensures)

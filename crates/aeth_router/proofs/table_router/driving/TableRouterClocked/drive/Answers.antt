@@ -1,6 +1,4 @@
-use Rattle.std.proofs.Common.{◌≡◌, ℕ, List, None, length, replicate, ap, sym, subst, ◌∙◌}
-use Rattle.aeth_clocked.specs.Wires.{AreLinks, Drives}
-use Rattle.aeth_router.specs.Router.{is_among, numbers_of}
+use Rattle.std.proofs.Common.{◌≡◌, None, ap, length, replicate, subst}
 use Rattle.aeth_router.specs.TableRouter.{TableRouterState, table_emit}
 use Rattle.aeth_router.proofs.{IdleLemmas.Drives-silent, TableLemmas.table_emit-idle}
 use Rattle.aeth_router.proofs.table_router.driving.TableRouterClocked.drive.Goals as goal
@@ -8,31 +6,21 @@ use Rattle.aeth_router.proofs.table_router.driving.TableRouterClocked.drive.Goal
 -- The outgoing links are links.
 pub route-requires-clause-links : goal.route-requires-clause-links
 route-requires-clause-links c =
-    let same : numbers_of c.deref.result.now ≡ c.args.self.now.outgoing =
-    ap numbers_of c.deref.ensures.value
-    ∙ ap (λ (router : TableRouterState). router.outgoing) c.self.view_is in
-    subst (λ (links : List ℕ). AreLinks (is_among links) (length c.args.wires.now)) (sym same)
+    rw (c.deref.ensures.value, ap (λ (router : TableRouterState). router.outgoing) c.self.view_is)
     c.requires
 
 pub clear-requires : goal.clear-requires
 clear-requires c =
-    let same : numbers_of c.deref-else-self.result.now ≡ c.args.self.now.outgoing =
-    ap numbers_of c.deref-else-self.ensures.value
-    ∙ ap (λ (router : TableRouterState). router.outgoing) c.self.view_is in
-    subst (λ (links : List ℕ). AreLinks (is_among links) (length c.args.wires.now)) (sym same)
+    rw (c.deref-else-self.ensures.value, ap (λ (router : TableRouterState). router.outgoing) c.self.view_is)
     c.requires
 
 -- Where no flit is held, the outgoing links are empty.
 pub returns-else-self-clause-wires : goal.returns-else-self-clause-wires
 returns-else-self-clause-wires c =
     let router = c.args.self.now in
-    let same : numbers_of c.deref-else-self.result.now ≡ router.outgoing =
-    ap numbers_of c.deref-else-self.ensures.value
-    ∙ ap (λ (router : TableRouterState). router.outgoing) c.self.view_is in
-    let idle : router.held ≡ replicate (length router.held) None =
-    subst (λ (router : TableRouterState). router.held ≡ replicate (length router.held) None)
+    let idle = subst (λ (router : TableRouterState). router.held ≡ replicate (length router.held) None)
     c.self.view_is (c.self.invariant.idle c.if-self.false) in
     Drives-silent router.outgoing (table_emit router c.args.cycle) c.args.wires.now
     c.clear.new.wires (λ link. table_emit-idle router c.args.cycle link idle)
-    (subst (λ (links : List ℕ). Drives (is_among links) (λ _. None) c.args.wires.now
-    c.clear.new.wires) same c.clear.ensures)
+    (rw (c.deref-else-self.ensures.value, ap (λ (router : TableRouterState). router.outgoing) c.self.view_is)
+    at c.clear.ensures)
