@@ -92,6 +92,25 @@ pub IsComponents-switched : (events : List Event) (all : ComponentsState) → Is
 IsComponents-switched events all =
     IsComponents-wired_for (switched events all.parts) all (wirings-switched events all.parts)
 
+-- A cycle without events of the components once some events are done is one with these.
+pub Cycle-switched : (events : List Event) (cycle : ℕ) (old new : ComponentsState)
+    → ComponentsCycle [] cycle (record old { parts = switched events old.parts }) new
+    → ComponentsCycle events cycle old new
+Cycle-switched events cycle old new did =
+    let wirings = did.wirings ∙ wirings-switched events old.parts in
+    record {
+      wires = did.wires;
+      parts = did.parts;
+      channel_states = did.channel_states;
+      words = did.words;
+      landings = did.landings;
+      flits = did.flits;
+      wirings = wirings;
+      size = sym (length-map new.parts wiring_of) ∙ ap length wirings
+          ∙ length-map old.parts wiring_of;
+      count = did.count;
+    }
+
 -- A component in place of one of which the same is seen.
 pub views-slice_set : {X : Type 0} (view : Part → X) (parts : List Part) (number : ℕ) (part : Part)
     → slice_get (map view parts) number ≡ Some (view part)

@@ -1,8 +1,9 @@
 -- Which interfaces may send in a slot: the entries of tables, what events note of them, and that those that send are marked.
 use Rattle.std.proofs.Common.{ℕ, zero, suc, ◌≡◌, ◌≢◌, ◌<◌, ◌≤◌, ◌+◌, ◌%◌, ◌∙◌, refl, sym, ap, arith}
 use Rattle.std.proofs.Common.{inl, inr, List, [], ◌∷◌, length, map, Option, Some, None, slice_get}
-use Rattle.std.proofs.Common.{true, is_some, length-set, ◌⊎◌}
-use Rattle.std.proofs.lemmas.{Bool.cases_eq, Bool.cases_lt, List.get_or_default, List.get_or_past}
+use Rattle.std.proofs.Common.{true, false, is_some, length-set, subst, ◌⊎◌}
+use Rattle.std.proofs.lemmas.Bool.{cases_Bool, cases_eq, cases_lt}
+use Rattle.std.proofs.lemmas.{List.get_or_default, List.get_or_past}
 use Rattle.std.proofs.lemmas.{List.length-map, Option.get_or_from_slice_get, Option.same_Some}
 use Rattle.std.specs.List.{slice_index_or}
 use Rattle.aeth_base.specs.{Limits.max_slots, Marks.bit_of, Marks.room_of}
@@ -23,10 +24,11 @@ use Rattle.aeth_components.specs.Changes.{event_done, happened, on_interface, wi
 use Rattle.aeth_components.specs.Events.{IsDoable, event_part}
 use Rattle.aeth_components.specs.Wirings.{Wiring}
 use Rattle.aeth_components.specs.Injecting.{AreEntered, AreInjecting, HasPlaces, IsEntered}
-use Rattle.aeth_components.specs.Injecting.{NotesEvent, entries_of, entry_at, may_send, table_at}
+use Rattle.aeth_components.specs.Injecting.{MarksQueueActive, NotesEvent, entries_of, entry_at}
+use Rattle.aeth_components.specs.Injecting.{may_send, place_of_entry, table_at}
 use Rattle.aeth_components.specs.SlotMarks.{MarksMore, marks_at}
 use Rattle.aeth_components.specs.Switching.{SlotWrite, Touches, Writes, entry_of, event_end}
-use Rattle.aeth_components.specs.Switching.{slot_write, slot_written}
+use Rattle.aeth_components.specs.Switching.{slot_write, slot_written, write_end}
 use Rattle.aeth_components.specs.FlitsOnWires.{AreSendersMarked, sends_own}
 use Rattle.aeth_components.specs.View.{queue_in}
 use Rattle.aeth_components.proofs.PartLemmas.{length-with_part}
@@ -146,6 +148,22 @@ writes-part (Halt end) slot is = absurd (cc is)
 writes-part (Finish end) slot is = absurd (cc is)
 writes-part (Change write) slot is = written-part write slot is
 
+-- And it changes a queue of its own component.
+written-end : (write : Write) (end : ChannelEnd) → write_end write ≡ Some end
+    → end.ni.0 ≡ (addressee write).0
+written-end (ClearSlot to slot) end is = absurd (cc is)
+written-end (ClearRoute to queue) end is =
+    sym (ap (λ (some : ChannelEnd). some.ni.0) (same_Some _ end is))
+written-end (SetRoute to queue route remote credits) end is =
+    sym (ap (λ (some : ChannelEnd). some.ni.0) (same_Some _ end is))
+written-end (SetSlot to slot queue) end is = absurd (cc is)
+
+ends-part : (event : Event) (end : ChannelEnd) → event_end event ≡ Some end
+    → end.ni.0 ≡ event_part event
+ends-part (Halt own) end is = sym (ap (λ (some : ChannelEnd). some.ni.0) (same_Some own end is))
+ends-part (Finish own) end is = sym (ap (λ (some : ChannelEnd). some.ni.0) (same_Some own end is))
+ends-part (Change write) end is = written-end write end is
+
 -- An interface that sends has an entry for the slot of the cycle, whose queue has something to send.
 queue-sends : (entry : Option ℕ) (queues : List QueueState) → is_some (emitted_by entry queues) ≡ true
     → (queue : ℕ) × (entry ≡ Some queue) × (is_some (emitted (queue_at queues queue)) ≡ true)
@@ -237,9 +255,18 @@ module _ (parts : List Part) (injecting : Injecting) (are : AreEntered (map entr
   pub entry-noted : IsEntered injecting number queue slot
   entry-noted = are.entered number slot queue (entry_at-parts parts number slot ∙ is)
 
--- An event is done and noted.
-module _ (event : Event) (parts : List Part) (old new : Injecting) (notes : NotesEvent event old new)
-    (are : AreInjecting parts old) where
+-- An event is done and noted, and so its component stands.
+module _ (event : Event) (parts : List Part) (part : Part) (old new : Injecting)
+    (notes : NotesEvent part event old new) (are : AreInjecting parts old)
+    (at : slice_get (happened parts event) (event_part event) ≡ Some part) where
+  -- What the component has to send is seen of it.
+  seen-sends : (number queue : ℕ) → number ≡ event_part event
+      → may_send (happened parts event) number queue ≡ true
+      → is_some (emitted (queue_in queue (Some part))) ≡ true
+  seen-sends number queue own sends =
+      ap (λ (found : Option Part). is_some (emitted (queue_in queue found)))
+      (sym (ap (slice_get (happened parts event)) own ∙ at)) ∙ sends
+
   -- As many tables are there as before.
   count-happened : length (map entries_of (happened parts event)) ≡ length (map entries_of parts)
   count-happened =
@@ -266,18 +293,29 @@ module _ (event : Event) (parts : List Part) (old new : Injecting) (notes : Note
   -- The entry that it writes, and any other.
   own-happened : (number slot queue : ℕ) → entry_of (happened parts event) number slot ≡ Some queue
       → (write : SlotWrite) → slot_write event ≡ Some write → number ≡ write.ni.0 → slot ≡ write.slot
-      → IsEntered new number queue slot × (bit_of (marks_at new.slots slot) number ≡ 1)
+      → IsEntered new number queue slot
   own-happened number slot queue is write writes there here =
       let within = below-happened number slot queue is in
       rw (there, here) (notes.written write queue writes
       (entry_of-happened_own parts event write queue writes (rw (there, here) at is))
       (omega (arith, within, here)))
 
+  own-marked : (number slot queue : ℕ) → entry_of (happened parts event) number slot ≡ Some queue
+      → may_send (happened parts event) number queue ≡ true
+      → (write : SlotWrite) → slot_write event ≡ Some write → number ≡ write.ni.0 → slot ≡ write.slot
+      → bit_of (marks_at new.slots slot) number ≡ 1
+  own-marked number slot queue is sends write writes there here =
+      let within = below-happened number slot queue is in
+      let has = seen-sends number queue (there ∙ writes-part event write writes) sends in
+      rw (there, here) (notes.marked write queue writes
+      (entry_of-happened_own parts event write queue writes (rw (there, here) at is))
+      (omega (arith, within, here)) has)
+
   entered-happened : (number slot queue : ℕ) → entry_of (happened parts event) number slot ≡ Some queue
       → IsEntered new number queue slot
   entered-happened number slot queue is =
       by-write event number slot (slot_write event) refl
-      (λ write writes there here. (own-happened number slot queue is write writes there here).0)
+      (λ write writes there here. own-happened number slot queue is write writes there here)
       (λ none. notes.kept number slot queue (below-happened number slot queue is) none
       (entry-noted parts old are.tables number slot queue
       (sym (entry_of-happened_other parts event number slot none) ∙ is)))
@@ -289,8 +327,10 @@ module _ (event : Event) (parts : List Part) (old new : Injecting) (notes : Note
   marked-kept number slot queue is sends =
       by-end event number queue (event_end event) refl
       (λ end ends there here.
+      let has = seen-sends number queue (there ∙ ends-part event end ends) sends in
       rw there (notes.marked_active end slot ends
       (entry-below parts old are.tables number slot queue is)
+      (subst (λ n. is_some (emitted (queue_in n (Some part))) ≡ true) here has)
       (rw (there, here) at (entry-noted parts old are.tables number slot queue is))))
       (λ none. notes.more.kept number slot (are.marked number slot queue is
       (ap (λ (state : QueueState). is_some (emitted state))
@@ -301,7 +341,7 @@ module _ (event : Event) (parts : List Part) (old new : Injecting) (notes : Note
       → bit_of (marks_at new.slots slot) number ≡ 1
   marked-happened number slot queue is sends =
       by-write event number slot (slot_write event) refl
-      (λ write writes there here. (own-happened number slot queue is write writes there here).1)
+      (λ write writes there here. own-marked number slot queue is sends write writes there here)
       (λ none. marked-kept number slot queue
       (sym (entry_of-happened_other parts event number slot none) ∙ is) sends)
 
@@ -325,19 +365,21 @@ module _ (event : Event) (parts : List Part) (old new : Injecting) (notes : Note
   }
 
 -- So an event is noted that clears an entry.
-pub NotesEvent-cleared : (event : Event) (write : SlotWrite) (old new : Injecting)
+pub NotesEvent-cleared : (part : Part) (event : Event) (write : SlotWrite) (old new : Injecting)
     → slot_write event ≡ Some write → event_end event ≡ None
     → length old.slots ≤ max_slots
     → new.slots ≡ old.slots → room_of new.entries ≡ room_of old.entries → write.entry ≡ None
     → ((other at queue : ℕ) → at < max_slots → (other ≢ write.ni.0) ⊎ (at ≢ write.slot)
     → IsEntered old other queue at → IsEntered new other queue at)
-    → NotesEvent event old new
-NotesEvent-cleared event write old new writes none most slots room cleared kept = record {
+    → NotesEvent part event old new
+NotesEvent-cleared part event write old new writes none most slots room cleared kept = record {
   more = rw slots (MarksMore-none (event_part event) old.slots);
   room = room;
   written = λ found queue is entry below.
       absurd (cc (sym cleared ∙ ap (λ (some : SlotWrite). some.entry) (same_Some write found (sym writes ∙ is)) ∙ entry));
-  marked_active = λ end slot is below entered. absurd (cc (sym none ∙ is));
+  marked = λ found queue is entry below has.
+      absurd (cc (sym cleared ∙ ap (λ (some : SlotWrite). some.entry) (same_Some write found (sym writes ∙ is)) ∙ entry));
+  marked_active = λ end slot is below has entered. absurd (cc (sym none ∙ is));
   kept = λ number slot queue below apart entered. kept number slot queue (omega (arith, below, most))
       (elim (cases_eq number write.ni.0) [
         | inr away ↦ inl away
@@ -348,6 +390,46 @@ NotesEvent-cleared event write old new writes none most slots room cleared kept 
         ]
       ]) entered;
 }
+
+-- So is one that changes a queue, which is marked active where it has something to send.
+pub NotesEvent-told : (part : Part) (event : Event) (end : ChannelEnd) (old new : Injecting)
+    → event_end event ≡ Some end → slot_write event ≡ None
+    → (is_some (emitted (queue_in end.queue (Some part))) ≡ true
+    → MarksQueueActive end.ni.0 end.queue old new)
+    → (is_some (emitted (queue_in end.queue (Some part))) ≡ false → new ≡ old)
+    → NotesEvent part event old new
+NotesEvent-told part event end old new is none marks rests =
+    let own = ends-part event end is in
+    elim (cases_Bool (is_some (emitted (queue_in end.queue (Some part))))) [
+      | inl has ↦
+          let active = marks has in
+          record {
+            more = subst (λ number. MarksMore number old.slots new.slots) own active.more;
+            room = ap room_of active.entries;
+            written = λ write queue found entry below. absurd (cc (sym none ∙ found));
+            marked = λ write queue found entry below some. absurd (cc (sym none ∙ found));
+            marked_active = λ other slot found below some entered.
+                let same = same_Some end other (sym is ∙ found) in
+                subst (λ (one : ChannelEnd). bit_of (marks_at new.slots slot) one.ni.0 ≡ 1) same
+                (active.own slot below (subst (λ (one : ChannelEnd).
+                IsEntered old one.ni.0 one.queue slot) (sym same) entered));
+            kept = λ number slot queue below apart entered.
+                ap (λ (entries : List ℕ). bit_of entries (place_of_entry number queue slot)) active.entries
+                ∙ entered;
+          }
+      | inr mute ↦
+          rw (rests mute) (record {
+            more = MarksMore-none (event_part event) old.slots;
+            room = refl;
+            written = λ write queue found entry below. absurd (cc (sym none ∙ found));
+            marked = λ write queue found entry below some. absurd (cc (sym none ∙ found));
+            marked_active = λ other slot found below some entered.
+                let same = same_Some end other (sym is ∙ found) in
+                absurd (cc (sym mute ∙ ap (λ (one : ChannelEnd).
+                is_some (emitted (queue_in one.queue (Some part)))) same ∙ some));
+            kept = λ number slot queue below apart entered. entered;
+          })
+    ]
 
 -- The table of a component has as many slots as there are, if it has any.
 pub length-table : (parts : List Part) (injecting : Injecting) → AreInjecting parts injecting

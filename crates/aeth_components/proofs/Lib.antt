@@ -39,6 +39,7 @@ mod ReadyLemmas
 mod ReceivedLemmas
 mod ReceiverLemmas
 mod ReplacedLemmas
+mod RestingCycle
 mod RoomLemmas
 pub mod SeenCycle
 pub mod SeenLemmas

@@ -5,6 +5,7 @@ use Rattle.std.proofs.Common.{subst, IfSome, length-set}
 use Rattle.std.proofs.lemmas.List.{length-map, take_more, Sums.fold_push}
 use Rattle.std.proofs.lemmas.Option.{slice_get-get_or, slice_get-map}
 use Rattle.std.specs.Option.{option_map, option_map_or}
+use Rattle.aeth_base.proofs.Lists.{slice_get-slice_set_same}
 use Rattle.aeth_ni.specs.declared.write.Write.{Write}
 use Rattle.aeth_ni.specs.declared.write.Write.TheVariants.{ClearSlot, ClearRoute, SetRoute, SetSlot}
 use Rattle.aeth_ni.specs.Interface.{InterfaceState}
@@ -125,6 +126,22 @@ happened-set event before now number other new wired_for is doable to =
     ap (set now number) to
     ∙ set-with_part now number (on_interface (event_done event)) other bound
     ∙ ap (λ n. with_part n (on_interface (event_done event)) now) is
+
+-- There the component is found behind it.
+pub happened-there : (event : Event) (before now : List Part) (number : ℕ) (other new : Part)
+    → map wiring_of now ≡ map wiring_of before → number ≡ event_part event
+    → IsDoable (map wiring_of before) event
+    → new ≡ on_interface (event_done event) (get_or now number other)
+    → slice_get (happened now event) (event_part event) ≡ Some new
+happened-there event before now number other new wired_for is doable to =
+    let there = doable.part in
+    let wirings = ap length wired_for in
+    let size = length-map now wiring_of in
+    let bound : number < length now = omega arith in
+    ap (λ (parts : List Part). slice_get parts (event_part event))
+    (sym (happened-set event before now number other new wired_for is doable to))
+    ∙ ap (slice_get (set now number new)) (sym is)
+    ∙ slice_get-slice_set_same now number new bound
 
 -- One event more is done.
 pub switched-more : (events : List Event) (before now : List Part) (place : ℕ) (default : Event)

@@ -103,17 +103,21 @@ abbrev pub MarksToldActive : ℕ → Option ℕ → Injecting → Injecting → 
 MarksToldActive number None old new = new ≡ old
 MarksToldActive number (Some queue) old new = MarksQueueActive number queue old new
 
--- The entry that an event writes is noted, and its component marked there. So it is in each slot of the queue that an
--- event changes. Of other entries none is gone.
-pub record NotesEvent (event : Event) (old new : Injecting) : Type 0 where
+-- The entry that an event writes is noted. Its component is marked there, and in each slot of the queue that the event
+-- changes, where the queue has something to send then. Of other entries none is gone.
+pub record NotesEvent (part : Part) (event : Event) (old new : Injecting) : Type 0 where
   pub more : MarksMore (event_part event) old.slots new.slots
   pub room : room_of new.entries ≡ room_of old.entries
   pub written : (write : SlotWrite) (queue : ℕ) → slot_write event ≡ Some write
       → write.entry ≡ Some queue → write.slot < length old.slots
       → IsEntered new write.ni.0 queue write.slot
-      × (bit_of (marks_at new.slots write.slot) write.ni.0 ≡ 1)
+  pub marked : (write : SlotWrite) (queue : ℕ) → slot_write event ≡ Some write
+      → write.entry ≡ Some queue → write.slot < length old.slots
+      → is_some (emitted (queue_in queue (Some part))) ≡ true
+      → bit_of (marks_at new.slots write.slot) write.ni.0 ≡ 1
   pub marked_active : (end : ChannelEnd) (slot : ℕ) → event_end event ≡ Some end
-      → slot < length old.slots → IsEntered old end.ni.0 end.queue slot
+      → slot < length old.slots → is_some (emitted (queue_in end.queue (Some part))) ≡ true
+      → IsEntered old end.ni.0 end.queue slot
       → bit_of (marks_at new.slots slot) end.ni.0 ≡ 1
   pub kept : (number slot queue : ℕ) → slot < length old.slots
       → (Writes event number slot → ⊥) → IsEntered old number queue slot

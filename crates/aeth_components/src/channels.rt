@@ -1,7 +1,7 @@
 // The channels of a network, and which of them have something to do.
 
 ghost use Rattle.std.specs.Prelude.{◌≡◌, ◌<◌, ◌≤◌, ◌+◌, ◌^◌, ◌==◌, ℕ, All, IfOk, fold, length, map};
-ghost use Rattle.std.specs.Prelude.{slice_set};
+ghost use Rattle.std.specs.Prelude.{IsTrue, slice_set};
 ghost use Rattle.aeth_base.specs.Marks.{bit_of, room_of};
 ghost use Rattle.aeth_components.specs.Busy.{IsChannelIdle, TakesNothing};
 ghost use Rattle.aeth_components.specs.Channels.{AreStill, OfChannelState};
@@ -216,6 +216,14 @@ impl Channels {
             }
             channel = self.next_busy(channel + 1);
         }
+    }
+
+    /// Whether all words that are accepted were enqueued, have landed and were taken.
+    pub(crate) fn are_idle(&self) -> bool
+        ensures { IsTrue result
+            → AreStill IsChannelIdle self.now.channel_states 0 (length self.now.channel_states) }
+    {
+        self.next_busy(0) == self.len()
     }
 
     // How many channels there are.

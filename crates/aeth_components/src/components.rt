@@ -1,7 +1,7 @@
 // The components of a network and the channels' sessions.
 
 ghost use Rattle.std.specs.Prelude.{◌≡◌, ◌≤◌, ◌<◌, ◌↔◌, ◌*◌, ◌+◌, ℕ, All, IfErr, IfOk, IfSome, IsTrue, None};
-ghost use Rattle.std.specs.Prelude.{Some, false, length, map, replicate, slice_get, slice_set};
+ghost use Rattle.std.specs.Prelude.{[], Some, false, length, map, replicate, slice_get, slice_set};
 ghost use Rattle.aeth_base.specs.Limits.{max_cycles};
 ghost use Rattle.aeth_ni.specs.Limits.{queues_of_interface};
 ghost use Rattle.aeth_clocked.specs.Wires.{flit_on};
@@ -282,6 +282,30 @@ impl Components {
             ≤ steps.old + 2 * flits_on self.old.wires + 2 * flits_on self.new.wires }
     {
         let _ = order;
+        self.prepare(events);
+        if !self.rests_in(cycle) {
+            self.step_all(cycle, &[], steps);
+        }
+    }
+
+    // Whether a cycle without events leaves all as it is: no wire has a flit, no interface is marked in its slot, and
+    // all that is accepted was taken.
+    fn rests_in(&self, cycle: u32) -> bool
+        ensures { IsTrue result → ComponentsCycle [] cycle self.now self.now }
+    {
+        self.turns.flits == 0
+            && self.turns.injecting.is_mute_in(cycle, self.parts.len())
+            && self.channels.are_idle()
+    }
+
+    // A cycle in which each phase is done.
+    fn step_all<L: Ledger>(&mut self, cycle: u32, events: &[Event], steps: &mut Steps<L>)
+        requires cycle { cycle < max_cycles }
+        requires events { All (IsDoable (wirings_of self.old)) events.now }
+        ensures cycle { ComponentsCycle events.now cycle self.old self.new }
+        ensures steps { steps.new
+            ≤ steps.old + 2 * flits_on self.old.wires + 2 * flits_on self.new.wires }
+    {
         run(
             &mut self.parts,
             &mut self.wires,

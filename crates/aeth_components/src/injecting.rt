@@ -1,7 +1,7 @@
 // Which interfaces may send in a slot, and marks of those that do.
 
 ghost use Rattle.std.specs.Prelude.{◌≡◌, ◌≢◌, ◌<◌, ◌≤◌, ◌+◌, ◌*◌, ◌%◌, ◌^◌, ◌⊎◌, ℕ, All, IfOk, count_by, false};
-ghost use Rattle.std.specs.Prelude.{Some, is_some, length, map, true};
+ghost use Rattle.std.specs.Prelude.{IsTrue, Some, is_some, length, map, true};
 ghost use Rattle.aeth_base.specs.Limits.{max_slots};
 ghost use Rattle.aeth_base.specs.Marks.{bit_of, room_of};
 ghost use Rattle.aeth_ni.specs.Limits.{queues_of_interface};
@@ -61,6 +61,15 @@ impl Injecting {
         })
     }
 
+    // Whether no interface is marked in the slot of a cycle. Then none of so many components sends in it.
+    pub(crate) fn is_mute_in(&self, cycle: u32, parts: usize) -> bool
+        requires { 0 < length self.now.slots }
+        ensures { IsTrue result → (number : ℕ) → number < parts → bit_of
+            (marks_at self.now.slots (cycle % length self.now.slots)) number ≡ 1 → ⊥ }
+    {
+        self.slots.next(self.slot(cycle), 0, parts) == parts
+    }
+
     // The slot of a cycle.
     pub(crate) fn slot(&self, cycle: u32) -> usize
         requires { 0 < length self.now.slots }
@@ -69,28 +78,32 @@ impl Injecting {
         cycle as usize % self.slots.len()
     }
 
-    // Notes what an event enters in a table, or takes out of one, and marks the queue that it
-    // changes as active.
-    pub(crate) fn note(&mut self, event: &Event)
+    // Notes what an event has entered in the table of a component, or taken out of it. The queue that it has
+    // changed is marked active where it has something to send.
+    pub(crate) fn note(&mut self, part: &Part, event: &Event)
         requires { HasPlaces (event_part event.now + 1) self.old }
-        ensures { NotesEvent event.now self.old self.new }
+        ensures { NotesEvent part.now event.now self.old self.new }
     {
         match event {
-            Event::Halt(end) | Event::Finish(end) => self.mark_active(end.ni.0 as usize, end.queue),
-            Event::Change(write) => self.note_write(write),
+            Event::Halt(end) | Event::Finish(end) => {
+                self.tell(part, end.ni.0 as usize, end.queue);
+            }
+            Event::Change(write) => self.note_write(part, write),
         }
     }
 
     // The same of a write.
-    fn note_write(&mut self, write: &Write)
+    fn note_write(&mut self, part: &Part, write: &Write)
         requires { HasPlaces ((addressee write.now).0 + 1) self.old }
-        ensures { NotesEvent (Change write.now) self.old self.new }
+        ensures { NotesEvent part.now (Change write.now) self.old self.new }
     {
         match *write {
-            Write::SetSlot { ni, slot, queue } => self.enter(ni.0 as usize, queue, slot as usize),
+            Write::SetSlot { ni, slot, queue } => {
+                self.enter(part, ni.0 as usize, queue, slot as usize);
+            }
             Write::ClearSlot { ni, slot } => self.clear(ni.0 as usize, slot as usize),
-            Write::SetRoute { ni, queue, .. } => self.mark_active(ni.0 as usize, queue),
-            Write::ClearRoute { ni, queue } => self.mark_active(ni.0 as usize, queue),
+            Write::SetRoute { ni, queue, .. } => self.tell(part, ni.0 as usize, queue),
+            Write::ClearRoute { ni, queue } => self.tell(part, ni.0 as usize, queue),
         }
     }
 
@@ -131,20 +144,23 @@ impl Injecting {
         }
     }
 
-    // A queue of an interface has the entry for a slot, and may send in it.
-    fn enter(&mut self, number: usize, queue: u8, slot: usize)
+    // A queue of an interface has the entry for a slot, and may send in it where it has something to send.
+    fn enter(&mut self, part: &Part, number: usize, queue: u8, slot: usize)
         requires { HasPlaces (number + 1) self.old }
         ensures more { MarksMore number self.old.slots self.new.slots }
         ensures room { room_of self.new.entries ≡ room_of self.old.entries }
         ensures own { slot < length self.old.slots → IsEntered self.new number queue slot }
         ensures marked { slot < length self.old.slots
+            → is_some (emitted (queue_in queue (Some part.now))) ≡ true
             → bit_of (marks_at self.new.slots slot) number ≡ 1 }
         ensures kept { (place : ℕ) → bit_of self.old.entries place ≡ 1
             → bit_of self.new.entries place ≡ 1 }
     {
         if slot < self.slots.len() {
             self.entries.mark(place_of(number, queue, slot));
-            self.slots.mark(slot, number);
+            if may_send(part, queue) {
+                self.slots.mark(slot, number);
+            }
         }
     }
 

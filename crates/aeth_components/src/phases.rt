@@ -28,7 +28,7 @@ pub(crate) fn switch(parts: &mut [Part], injecting: &mut Injecting, events: &[Ev
     for event in events {
         let part = &mut parts[event.part() as usize];
         meet(part, event);
-        injecting.note(event);
+        injecting.note(part, event);
     }
 }
 

@@ -8,6 +8,6 @@ use Rattle.aeth_components.proofs.injecting.Injecting.note_write.Goals as goal
 pub returns-in-ClearSlot : goal.returns-in-ClearSlot
 returns-in-ClearSlot c =
     let write = c.in-ClearSlot in
-    NotesEvent-cleared (Change c.args.write.now) (record { ni = write.ni; slot = write.slot; entry = None })
+    NotesEvent-cleared c.args.part.now (Change c.args.write.now) (record { ni = write.ni; slot = write.slot; entry = None })
     c.args.self.now c.clear.new.self (ap slot_written write.is) (ap write_end write.is) c.requires.most
     c.clear.ensures.slots c.clear.ensures.room refl c.clear.ensures.kept
