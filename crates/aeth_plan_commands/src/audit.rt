@@ -74,23 +74,26 @@ pub fn answer<H: Shelf>(
         (audit_task files.now cycles) result }
 {
     let design = read_design(alloc, &files.chip, &files.app, shelf)?;
-    planned_answer(alloc, design, files, cycles, shelf)
+    planned_answer(alloc, &design, files, cycles, shelf)
 }
 
 /// The same for a chip and an application.
 fn planned_answer<H: Shelf>(
     alloc: Global,
-    design: Design,
+    design: &Design,
     files: &AuditFiles,
     cycles: u32,
     shelf: &mut H,
 ) -> Result<Answer, Stop>
-    requires { IsAppOf design.chip design.app }
+    requires { IsAppOf design.now.chip design.now.app }
     ensures { Answers (files_of H.Shelf shelf.old) (files_of H.Shelf shelf.new)
-        (planned_task design files.now cycles) result }
+        (planned_task design.now files.now cycles) result }
 {
-    let planned = read_accepted(alloc, &design, &files.plan, shelf)?;
-    let accepted = AcceptedDesign { design, planned };
+    let planned = read_accepted(alloc, design, &files.plan, shelf)?;
+    let accepted = AcceptedDesign {
+        design,
+        planned: &planned,
+    };
     switched_answer(alloc, &accepted, files, cycles, shelf)
 }
 
@@ -102,14 +105,15 @@ fn switched_answer<H: Shelf>(
     cycles: u32,
     shelf: &mut H,
 ) -> Result<Answer, Stop>
-    requires of_chip { IsAppOf accepted.now.design.chip accepted.now.design.app }
-    requires groups { accepted.now.planned.groups ≡ groups_of accepted.now.design.app }
-    requires design { IsDesign accepted.now.design.chip accepted.now.design.app
-        accepted.now.planned.plan }
+    requires of_chip { IsAppOf accepted.now.design.now.chip accepted.now.design.now.app }
+    requires groups { accepted.now.planned.now.groups ≡ groups_of accepted.now.design.now.app }
+    requires design { IsDesign accepted.now.design.now.chip accepted.now.design.now.app
+        accepted.now.planned.now.plan }
     ensures { Answers (files_of H.Shelf shelf.old) (files_of H.Shelf shelf.new)
-        (switched_task accepted.now.design accepted.now.planned.plan files.now cycles) result }
+        (switched_task accepted.now.design.now accepted.now.planned.now.plan files.now cycles)
+        result }
 {
-    let AcceptedDesign { design, planned } = accepted;
+    let AcceptedDesign { design, planned } = *accepted;
     let switches = read_switches_file(alloc, design, planned, &files.switches, shelf)?;
     log_answer(alloc, accepted, &switches, files, cycles, shelf)
 }
@@ -123,18 +127,18 @@ fn log_answer<H: Shelf>(
     cycles: u32,
     shelf: &mut H,
 ) -> Result<Answer, Stop>
-    requires of_chip { IsAppOf accepted.now.design.chip accepted.now.design.app }
-    requires groups { accepted.now.planned.groups ≡ groups_of accepted.now.design.app }
-    requires design { IsDesign accepted.now.design.chip accepted.now.design.app
-        accepted.now.planned.plan }
-    requires switches { AreSwitchesOf accepted.now.design.app (spans_of accepted.now.design.chip
-        accepted.now.design.app (groups_of accepted.now.design.app) accepted.now.planned.plan)
-        switches.now }
+    requires of_chip { IsAppOf accepted.now.design.now.chip accepted.now.design.now.app }
+    requires groups { accepted.now.planned.now.groups ≡ groups_of accepted.now.design.now.app }
+    requires design { IsDesign accepted.now.design.now.chip accepted.now.design.now.app
+        accepted.now.planned.now.plan }
+    requires switches { AreSwitchesOf accepted.now.design.now.app
+        (spans_of accepted.now.design.now.chip accepted.now.design.now.app
+        (groups_of accepted.now.design.now.app) accepted.now.planned.now.plan) switches.now }
     ensures { Answers (files_of H.Shelf shelf.old) (files_of H.Shelf shelf.new)
-        (log_task accepted.now.design accepted.now.planned.plan switches.now files.now cycles)
-        result }
+        (log_task accepted.now.design.now accepted.now.planned.now.plan switches.now files.now
+        cycles) result }
 {
-    let AcceptedDesign { design, planned } = accepted;
+    let AcceptedDesign { design, planned } = *accepted;
     let log = read_log_file(alloc, &design.chip, &files.log, shelf)?;
     ended(audited(alloc, design, planned, switches, &log, cycles))
 }

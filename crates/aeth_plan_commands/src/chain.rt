@@ -106,13 +106,13 @@ pub fn answer<H: Shelf>(
         items: items.as_slice(),
         cycles,
     };
-    named_answer(alloc, design, files, &chain, shelf)
+    named_answer(alloc, &design, files, &chain, shelf)
 }
 
 /// The same for a chip and an application.
 fn named_answer<H: Shelf>(
     alloc: Global,
-    design: Design,
+    design: &Design,
     files: &ChainFiles,
     chain: &NamedChain,
     shelf: &mut H,
@@ -121,7 +121,7 @@ fn named_answer<H: Shelf>(
     requires least { 1 ≤ chain.now.cycles }
     requires most { chain.now.cycles ≤ max_cycles }
     ensures { Answers (files_of H.Shelf shelf.old) (files_of H.Shelf shelf.new)
-        (named_task design files.now chain.now.u.now chain.now.items.now chain.now.cycles)
+        (named_task design.now files.now chain.now.u.now chain.now.items.now chain.now.cycles)
         result }
 {
     let u = named_use(alloc, &design.app, chain.u)?;
@@ -131,18 +131,18 @@ fn named_answer<H: Shelf>(
 /// The same for a use case.
 fn items_answer<H: Shelf>(
     alloc: Global,
-    design: Design,
+    design: &Design,
     files: &ChainFiles,
     u: UseId,
     chain: &NamedChain,
     shelf: &mut H,
 ) -> Result<Answer, Stop>
     requires names { AreItemNames chain.now.items.now }
-    requires use_case { u.0 < length design.app.uses }
+    requires use_case { u.0 < length design.now.app.uses }
     requires least { 1 ≤ chain.now.cycles }
     requires most { chain.now.cycles ≤ max_cycles }
     ensures { Answers (files_of H.Shelf shelf.old) (files_of H.Shelf shelf.new)
-        (items_task design files.now u chain.now.items.now chain.now.cycles) result }
+        (items_task design.now files.now u chain.now.items.now chain.now.cycles) result }
 {
     let items = judged_items(alloc, &design.app, u, chain.items)?;
     let run = ForwardingRun {
@@ -172,20 +172,23 @@ fn judged_items(
 /// What a chain shows, for a chip and an application.
 fn planned_answer<H: Shelf>(
     alloc: Global,
-    design: Design,
+    design: &Design,
     files: &ChainFiles,
     run: &ForwardingRun,
     shelf: &mut H,
 ) -> Result<Answer, Stop>
-    requires use_case { run.now.u.0 < length design.app.uses }
-    requires items { AreItemsOf design.app run.now.u.0 run.now.items.items }
+    requires use_case { run.now.u.0 < length design.now.app.uses }
+    requires items { AreItemsOf design.now.app run.now.u.0 run.now.items.items }
     requires least { 1 ≤ run.now.cycles }
     requires most { run.now.cycles ≤ max_cycles }
     ensures { Answers (files_of H.Shelf shelf.old) (files_of H.Shelf shelf.new)
-        (planned_task design files.now run.now.u run.now.items.items run.now.cycles) result }
+        (planned_task design.now files.now run.now.u run.now.items.items run.now.cycles) result }
 {
-    let planned = read_accepted(alloc, &design, &files.plan, shelf)?;
-    let accepted = AcceptedDesign { design, planned };
+    let planned = read_accepted(alloc, design, &files.plan, shelf)?;
+    let accepted = AcceptedDesign {
+        design,
+        planned: &planned,
+    };
     words_answer(alloc, &accepted, files, run, shelf)
 }
 
@@ -197,15 +200,15 @@ fn words_answer<H: Shelf>(
     run: &ForwardingRun,
     shelf: &mut H,
 ) -> Result<Answer, Stop>
-    requires groups { accepted.now.planned.groups ≡ groups_of accepted.now.design.app }
-    requires design { IsDesign accepted.now.design.chip accepted.now.design.app
-        accepted.now.planned.plan }
-    requires use_case { run.now.u.0 < length accepted.now.design.app.uses }
-    requires items { AreItemsOf accepted.now.design.app run.now.u.0 run.now.items.items }
+    requires groups { accepted.now.planned.now.groups ≡ groups_of accepted.now.design.now.app }
+    requires design { IsDesign accepted.now.design.now.chip accepted.now.design.now.app
+        accepted.now.planned.now.plan }
+    requires use_case { run.now.u.0 < length accepted.now.design.now.app.uses }
+    requires items { AreItemsOf accepted.now.design.now.app run.now.u.0 run.now.items.items }
     requires least { 1 ≤ run.now.cycles }
     requires most { run.now.cycles ≤ max_cycles }
     ensures { Answers (files_of H.Shelf shelf.old) (files_of H.Shelf shelf.new)
-        (words_task accepted.now.design files.now accepted.now.planned.plan run.now.u
+        (words_task accepted.now.design.now files.now accepted.now.planned.now.plan run.now.u
         run.now.items.items run.now.cycles) result }
 {
     let words = read_words_file(alloc, &accepted.design.app, &files.words, shelf)?;
@@ -221,18 +224,18 @@ fn pulled_answer<H: Shelf>(
     words: &Words,
     shelf: &mut H,
 ) -> Result<Answer, Stop>
-    requires groups { accepted.now.planned.groups ≡ groups_of accepted.now.design.app }
-    requires design { IsDesign accepted.now.design.chip accepted.now.design.app
-        accepted.now.planned.plan }
-    requires use_case { run.now.u.0 < length accepted.now.design.app.uses }
-    requires items { AreItemsOf accepted.now.design.app run.now.u.0 run.now.items.items }
+    requires groups { accepted.now.planned.now.groups ≡ groups_of accepted.now.design.now.app }
+    requires design { IsDesign accepted.now.design.now.chip accepted.now.design.now.app
+        accepted.now.planned.now.plan }
+    requires use_case { run.now.u.0 < length accepted.now.design.now.app.uses }
+    requires items { AreItemsOf accepted.now.design.now.app run.now.u.0 run.now.items.items }
     requires least { 1 ≤ run.now.cycles }
     requires most { run.now.cycles ≤ max_cycles }
     ensures { Answers (files_of H.Shelf shelf.old) (files_of H.Shelf shelf.new)
-        (pulled_task accepted.now.design files.now accepted.now.planned.plan run.now.u
+        (pulled_task accepted.now.design.now files.now accepted.now.planned.now.plan run.now.u
         run.now.items.items run.now.cycles words.now) result }
 {
-    let AcceptedDesign { design, planned } = accepted;
+    let AcceptedDesign { design, planned } = *accepted;
     let receivers = read_receivers_file(alloc, &design.app, &files.receivers, shelf)?;
     ended(printed(alloc, design, planned, run, words, &receivers))
 }

@@ -10,20 +10,20 @@ use Rattle.aeth_plan_commands.proofs.audit.log_answer.Goals as goal
 pub returns-in_err-log : goal.returns-in_err-log
 returns-in_err-log g c =
     let p = err_from_is_err_and c.from_residual.result c.from_residual.ensures.1 in
-    let design = c.args.accepted.now.design in
+    let design = c.args.accepted.now.design.now in
     rw (p.1, p.2)
     (Answers-stopped (files_of g.H.Shelf c.args.shelf.now)
     (files_of g.H.Shelf c.read_log_file.new.shelf)
     (log_file (length design.chip.links) c.args.files.now.log) (λ (rows : List LinkRow). rows)
-    (λ log. ends (audit_job (audited design c.args.accepted.now.planned.plan c.args.switches.now log
+    (λ log. ends (audit_job (audited design c.args.accepted.now.planned.now.plan c.args.switches.now log
     c.args.cycles))) _ c.in_err-log.ensures.judges)
 
 -- The audit of the log is told.
 pub returns : goal.returns
 returns g c =
     let now = files_of g.H.Shelf c.read_log_file.new.shelf in
-    let design = c.args.accepted.now.design in
-    let said = λ (log : List LinkRow). audited design c.args.accepted.now.planned.plan
+    let design = c.args.accepted.now.design.now in
+    let said = λ (log : List LinkRow). audited design c.args.accepted.now.planned.now.plan
     c.args.switches.now log c.args.cycles in
     let log = c.in_ok-log.log in
     Answers-then (files_of g.H.Shelf c.args.shelf.now) now now

@@ -12,8 +12,8 @@ use Rattle.aeth_plan_commands.proofs.audit.switched_answer.Goals as goal
 pub returns-in_err-switches : goal.returns-in_err-switches
 returns-in_err-switches g c =
     let p = err_from_is_err_and c.from_residual.result c.from_residual.ensures.1 in
-    let design = c.args.accepted.now.design in
-    let plan = c.args.accepted.now.planned.plan in
+    let design = c.args.accepted.now.design.now in
+    let plan = c.args.accepted.now.planned.now.plan in
     let files = c.args.files.now in
     rw (p.1, p.2)
     (Answers-stopped (files_of g.H.Shelf c.args.shelf.now)
@@ -26,8 +26,8 @@ returns-in_err-switches g c =
 -- What comes of the switches is answered.
 pub returns : goal.returns
 returns g c =
-    let design = c.args.accepted.now.design in
-    let plan = c.args.accepted.now.planned.plan in
+    let design = c.args.accepted.now.design.now in
+    let plan = c.args.accepted.now.planned.now.plan in
     let files = c.args.files.now in
     Answers-then (files_of g.H.Shelf c.args.shelf.now)
     (files_of g.H.Shelf c.read_switches_file.new.shelf)

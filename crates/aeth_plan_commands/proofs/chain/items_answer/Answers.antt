@@ -10,7 +10,7 @@ pub returns-in_err-items : goal.returns-in_err-items
 returns-in_err-items g c =
     let p = err_from_is_err_and c.from_residual.result c.from_residual.ensures.1 in
     let now = files_of g.H.Shelf c.args.shelf.now in
-    let design = c.args.design in
+    let design = c.args.design.now in
     rw (p.1, p.2)
     (Answers-stopped now now (judged_items design.app c.args.u c.args.chain.now.items.now)
     (λ (items : Vec ChainItem Global). items.items)
@@ -21,7 +21,7 @@ returns-in_err-items g c =
 pub returns : goal.returns
 returns g c =
     let now = files_of g.H.Shelf c.args.shelf.now in
-    let design = c.args.design in
+    let design = c.args.design.now in
     Answers-then now now (files_of g.H.Shelf c.planned_answer.new.shelf)
     (judged_items design.app c.args.u c.args.chain.now.items.now)
     (λ (items : Vec ChainItem Global). items.items) c.in_ok-items.items

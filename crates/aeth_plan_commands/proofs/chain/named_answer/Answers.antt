@@ -11,7 +11,7 @@ pub returns-in_err-u : goal.returns-in_err-u
 returns-in_err-u g c =
     let p = err_from_is_err_and c.from_residual.result c.from_residual.ensures.1 in
     let now = files_of g.H.Shelf c.args.shelf.now in
-    let design = c.args.design in
+    let design = c.args.design.now in
     rw (p.1, p.2)
     (Answers-stopped now now (named_use design.app c.args.chain.now.u.now) (λ (u : UseId). u)
     (λ u. items_task design c.args.files.now u c.args.chain.now.items.now c.args.chain.now.cycles) _
@@ -21,7 +21,7 @@ returns-in_err-u g c =
 pub returns : goal.returns
 returns g c =
     let now = files_of g.H.Shelf c.args.shelf.now in
-    let design = c.args.design in
+    let design = c.args.design.now in
     Answers-then now now (files_of g.H.Shelf c.items_answer.new.shelf)
     (named_use design.app c.args.chain.now.u.now) (λ (u : UseId). u) c.in_ok-u.u
     (λ u. items_task design c.args.files.now u c.args.chain.now.items.now c.args.chain.now.cycles)

@@ -10,7 +10,7 @@ use Rattle.aeth_plan_commands.proofs.chain.planned_answer.Goals as goal
 pub returns-in_err-planned : goal.returns-in_err-planned
 returns-in_err-planned g c =
     let p = err_from_is_err_and c.from_residual.result c.from_residual.ensures.1 in
-    let design = c.args.design in
+    let design = c.args.design.now in
     let files = c.args.files.now in
     let run = c.args.run.now in
     rw (p.1, p.2)
@@ -23,7 +23,7 @@ returns-in_err-planned g c =
 -- What comes of the plan is answered.
 pub returns : goal.returns
 returns g c =
-    let design = c.args.design in
+    let design = c.args.design.now in
     let files = c.args.files.now in
     let run = c.args.run.now in
     Answers-then (files_of g.H.Shelf c.args.shelf.now)

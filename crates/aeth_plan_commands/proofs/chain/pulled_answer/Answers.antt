@@ -14,22 +14,22 @@ use Rattle.aeth_plan_commands.proofs.chain.pulled_answer.Goals as goal
 pub returns-in_err-receivers : goal.returns-in_err-receivers
 returns-in_err-receivers g c =
     let p = err_from_is_err_and c.from_residual.result c.from_residual.ensures.1 in
-    let design = c.args.accepted.now.design in
+    let design = c.args.accepted.now.design.now in
     let run = c.args.run.now in
     rw (p.1, p.2)
     (Answers-stopped (files_of g.H.Shelf c.args.shelf.now)
     (files_of g.H.Shelf c.read_receivers_file.new.shelf)
     (receivers_file design.app c.args.files.now.receivers) (λ (rows : List PullRow). rows)
-    (λ pulls. ends (chain_job design c.args.accepted.now.planned.plan run.u run.items.items run.cycles
+    (λ pulls. ends (chain_job design c.args.accepted.now.planned.now.plan run.u run.items.items run.cycles
     c.args.words.now pulls)) _ c.in_err-receivers.ensures.judges)
 
 -- The text of the chain is printed.
 pub returns : goal.returns
 returns g c =
     let now = files_of g.H.Shelf c.read_receivers_file.new.shelf in
-    let design = c.args.accepted.now.design in
+    let design = c.args.accepted.now.design.now in
     let run = c.args.run.now in
-    let plan = c.args.accepted.now.planned.plan in
+    let plan = c.args.accepted.now.planned.now.plan in
     let pulls = c.in_ok-receivers.receivers in
     let legs = legs_of run.items.items (shapes_in (tables_of design.chip design.app
     (groups_of design.app) plan run.u) run.items.items) in
