@@ -1,3 +1,4 @@
+mod BesideLemmas
 mod EnteringLemmas
 mod SessionStartLemmas
 mod LineLemmas

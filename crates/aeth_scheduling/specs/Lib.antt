@@ -1,3 +1,4 @@
+pub mod Beside
 pub mod Entered
 pub mod Made
 pub mod Parts

@@ -12,8 +12,9 @@ use crate::lines::lines_with;
 use crate::placing::starts;
 use crate::rooms::rooms_of;
 use crate::session_start::session_starts_of;
-use crate::switching::{TimedEvents, loaded_of, timed_events};
+use crate::switching::{loaded_of, timed_events};
 use crate::task::Task;
+use crate::timed::TimedEvents;
 use crate::windows::windows_of;
 use aeth_accepted::RunInputs;
 use aeth_base::{NoMemory, UseId};
@@ -56,13 +57,13 @@ pub fn schedule_of(alloc: Global, inputs: &RunInputs) -> Result<Schedule, NoMemo
 
 // A schedule of these parts, with the lines among which its sessions are.
 fn made(parts: Parts, lines: Vec<Lines>) -> Schedule
-    requires { length parts.timed.events.items ≡ length parts.timed.cycles.items }
     ensures { result ≡ schedule_with lines.items parts }
 {
+    let (events, cycles) = parts.timed.apart();
     Schedule::new(
         parts.loaded,
-        parts.timed.events,
-        parts.timed.cycles,
+        events,
+        cycles,
         SessionStartList::of(lines, parts.session_starts),
         parts.windows,
         parts.rooms,
@@ -72,10 +73,8 @@ fn made(parts: Parts, lines: Vec<Lines>) -> Schedule
 // The parts of the schedule of accepted inputs, of which this is the task.
 fn parts_of(alloc: Global, inputs: &RunInputs, task: &Task) -> Result<Parts, NoMemory>
     requires { IsTaskOf inputs.now task.now }
-    ensures parts { IfOk result (λ parts. schedule_with task.now.all.now parts
+    ensures { IfOk result (λ parts. schedule_with task.now.all.now parts
         ≡ schedule_of inputs.now) }
-    ensures cycles { IfOk result (λ parts. length parts.timed.events.items
-        ≡ length parts.timed.cycles.items) }
 {
     inputs.are_accepted();
     let rows = inputs.switches().rows();

@@ -9,22 +9,15 @@ ghost use Rattle.aeth_schedule.specs.Switching.{changes, switches_from};
 ghost use Rattle.aeth_schedule.specs.Timed.{within};
 
 use crate::task::Task;
-use crate::timed::push_switching;
+use crate::timed::{TimedEvents, push_switching};
 use aeth_base::{NoMemory, UseId};
 use aeth_components::Event;
 use aeth_group::Groups;
 use aeth_ni::{ChannelRow, Write};
 use aeth_reconf::{close_by, program};
-use aeth_schedule::{Line, Lines, Timed, lines_in};
+use aeth_schedule::{Line, Lines, lines_in};
 use aeth_trace::SwitchRow;
 use std::alloc::Global;
-
-// Events, and the cycle of each.
-#[derive(Drop)]
-pub(crate) struct TimedEvents {
-    pub events: Vec<Event>,
-    pub cycles: Vec<u32>,
-}
 
 // The events of all switches behind the first row, below the end of the run.
 pub(crate) fn timed_events(
@@ -33,50 +26,11 @@ pub(crate) fn timed_events(
     rows: &[SwitchRow],
 ) -> Result<TimedEvents, NoMemory>
     requires { All (λ row. row.to.0 < length task.now.groups.now.uses) rows.now }
-    ensures events { IfOk result (λ all. all.events.items ≡ map (λ one. one.event)
-        (timed_over task.now.groups.now task.now.spans.now task.now.all.now rows.now
-        task.now.cycles)) }
-    ensures cycles { IfOk result (λ all. all.cycles.items ≡ map (λ one. one.cycle)
-        (timed_over task.now.groups.now task.now.spans.now task.now.all.now rows.now
-        task.now.cycles)) }
-{
-    let timed = events_of(alloc, task, rows)?;
-    Ok(TimedEvents {
-        events: events_in(alloc, &timed)?,
-        cycles: cycles_in(alloc, &timed)?,
-    })
-}
-
-// Events without their cycles.
-fn events_in(alloc: Global, timed: &[Timed]) -> Result<Vec<Event>, NoMemory>
-    ensures { IfOk result (λ events. events.items ≡ map (λ one. one.event) timed.now) }
-{
-    let mut events = Vec::with_capacity(alloc, timed.len())?;
-    for one in timed {
-        events.push(one.event)?;
-    }
-    Ok(events)
-}
-
-// Their cycles.
-fn cycles_in(alloc: Global, timed: &[Timed]) -> Result<Vec<u32>, NoMemory>
-    ensures { IfOk result (λ cycles. cycles.items ≡ map (λ one. one.cycle) timed.now) }
-{
-    let mut cycles = Vec::with_capacity(alloc, timed.len())?;
-    for one in timed {
-        cycles.push(one.cycle)?;
-    }
-    Ok(cycles)
-}
-
-// The same, each event with its cycle.
-fn events_of(alloc: Global, task: &Task, rows: &[SwitchRow]) -> Result<Vec<Timed>, NoMemory>
-    requires { All (λ row. row.to.0 < length task.now.groups.now.uses) rows.now }
-    ensures { IfOk result (λ list. list.items
+    ensures { IfOk result (λ list. list
         ≡ timed_over task.now.groups.now task.now.spans.now task.now.all.now rows.now
         task.now.cycles) }
 {
-    let mut list = Vec::new(alloc);
+    let mut list = TimedEvents::new(alloc);
     if let [first, later @ ..] = rows {
         push_events(alloc, &mut list, task, first.to, later)?;
     }
@@ -86,14 +40,14 @@ fn events_of(alloc: Global, task: &Task, rows: &[SwitchRow]) -> Result<Vec<Timed
 // Appends the events of switches, the first of which leaves this use case.
 fn push_events(
     alloc: Global,
-    list: &mut Vec<Timed>,
+    list: &mut TimedEvents,
     task: &Task,
     first: UseId,
     rows: &[SwitchRow],
 ) -> Result<(), NoMemory>
     requires first { first.0 < length task.now.groups.now.uses }
     requires known { All (λ row. row.to.0 < length task.now.groups.now.uses) rows.now }
-    ensures { OnOk result (list.new.items ≡ list.old.items ++ within task.now.cycles (flat_map
+    ensures { OnOk result (list.new ≡ list.old ++ within task.now.cycles (flat_map
         (events_over task.now.groups.now task.now.spans.now task.now.all.now)
         (switches_from first.0 rows.now))) }
 {
@@ -108,14 +62,14 @@ fn push_events(
 // Appends the events of a switch: the halts, the finishes, and the writes.
 fn push_switch(
     alloc: Global,
-    list: &mut Vec<Timed>,
+    list: &mut TimedEvents,
     task: &Task,
     from: UseId,
     row: &SwitchRow,
 ) -> Result<(), NoMemory>
     requires from { from.0 < length task.now.groups.now.uses }
     requires to { row.now.to.0 < length task.now.groups.now.uses }
-    ensures { OnOk result (list.new.items ≡ list.old.items ++ within task.now.cycles
+    ensures { OnOk result (list.new ≡ list.old ++ within task.now.cycles
         (events_over task.now.groups.now task.now.spans.now task.now.all.now
         (record { leaves = from.0; row = row.now }))) }
 {

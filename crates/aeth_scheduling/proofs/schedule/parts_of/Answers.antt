@@ -37,9 +37,9 @@ session_starts_of-requires c =
     (rows-are inputs c.are_accepted.ensures)
 
 -- The parts are those of the schedule.
-pub returns-clause-parts : goal.returns-clause-parts
+pub returns : goal.returns
 unfolding session_starts_of
-returns-clause-parts c =
+returns c =
     let inputs = c.args.inputs.now in
     let accepted = c.are_accepted.ensures in
     let groups = groups_of inputs.app in
@@ -50,8 +50,7 @@ returns-clause-parts c =
     let spans = (run_of inputs).spans in
     rw (
       c.in_ok-loaded.ensures,
-      c.in_ok-timed.ensures.events,
-      c.in_ok-timed.ensures.cycles,
+      c.in_ok-timed.ensures,
       c.in_ok-session_starts.ensures,
       c.in_ok-windows.ensures,
       c.in_ok-rooms.ensures,

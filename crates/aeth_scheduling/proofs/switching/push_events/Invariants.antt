@@ -7,10 +7,10 @@ use Rattle.aeth_scheduling.proofs.switching.push_events.Given as goal
 abbrev pub invariant-loop-row : goal.invariant-loop-row
 invariant-loop-row l = record {
   from : l.from.0 < length l.task.groups.now.uses;
-  events : l.list.items ++ within l.task.cycles (flat_map
+  events : l.list ++ within l.task.cycles (flat_map
       (events_over l.task.groups.now l.task.spans.now l.task.all.now)
       (switches_from l.from.0 (drop l.row-index l.rows)))
-      ≡ l.fn.list.items ++ within l.task.cycles (flat_map
+      ≡ l.fn.list ++ within l.task.cycles (flat_map
       (events_over l.task.groups.now l.task.spans.now l.task.all.now)
       (switches_from l.fn.first.0 l.rows));
 }

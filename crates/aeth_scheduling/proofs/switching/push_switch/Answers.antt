@@ -19,7 +19,7 @@ returns-then-close-from c =
           (changed_rows groups c.args.from.0 c.args.row.now.to.0 (lines_at all c.args.from.0))
           (changed_rows groups c.args.from.0 c.args.row.now.to.0 (lines_at all c.args.row.now.to.0))
           (omega (arith, stop, end, late)) (omega arith),
-      append-nil c.args.list.now.items,
+      append-nil c.args.list.now,
     ) refl
 
 -- Else its channels close, and its writes are made.

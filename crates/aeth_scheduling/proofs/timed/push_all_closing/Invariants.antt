@@ -5,4 +5,4 @@ use Rattle.aeth_scheduling.proofs.timed.push_all_closing.Given as goal
 -- Those so far.
 abbrev pub invariant-loop-row : goal.invariant-loop-row
 invariant-loop-row l =
-    l.list.items ≡ l.fn.list.items ++ closing_at l.closing l.cycle (take l.row-index l.rows)
+    l.list ≡ l.fn.list ++ closing_at l.closing l.cycle (take l.row-index l.rows)

@@ -14,7 +14,7 @@ returns-then-cycle-from c =
         cycle = c.args.cycle;
         event = event_by c.args.closing (end_of row);
       }) c.args.end c.args.cycle c.args.rows.now (λ row. refl) (omega arith),
-      append-nil c.args.list.now.items,
+      append-nil c.args.list.now,
     ) refl
 
 -- All are.

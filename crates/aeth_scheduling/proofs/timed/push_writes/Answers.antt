@@ -7,7 +7,7 @@ pub returns-then-cycle-from : goal.returns-then-cycle-from
 returns-then-cycle-from c =
     let end = c.from.ensures in
     let late = c.if-cycle-from.true in
-    sym (append-nil c.writes.list.items)
-    ∙ (ap (λ xs. c.writes.list.items ++ xs)
+    sym (append-nil c.writes.list)
+    ∙ (ap (λ xs. c.writes.list ++ xs)
     (sym (writes-late c.args.end c.writes.cycle c.writes.rest.now (omega arith)))
     ∙ c.writes.invariant)

@@ -5,8 +5,8 @@ use Rattle.aeth_scheduling.proofs.timed.push_writes.Given as goal
 -- The writes that are left are still to be appended.
 abbrev pub invariant-writes : goal.invariant-writes
 invariant-writes l =
-    l.list.items ++ within l.end (writes_from l.cycle l.rest)
-    ≡ l.fn.list.items ++ within l.end (writes_from l.first l.writes)
+    l.list ++ within l.end (writes_from l.cycle l.rest)
+    ≡ l.fn.list ++ within l.end (writes_from l.first l.writes)
 
 -- Fewer are left.
 abbrev pub decreases-writes : goal.decreases-writes
