@@ -2,15 +2,17 @@
 ghost use Rattle.std.specs.Prelude.{◌≡◌, ◌≤◌, ◌<◌, ℕ, IfOk, length};
 ghost use Rattle.aeth_accepted.specs.Inputs.{AreAccepted, Inputs, inputs_with};
 ghost use Rattle.aeth_group.specs.Members.{groups_of};
+ghost use Rattle.aeth_machine.specs.RunInputs.{inputs_of};
 ghost use Rattle.aeth_report.specs.Log.{LogData};
 ghost use Rattle.aeth_report.specs.Regular.{IsRegular};
 
+use crate::traces::Traces;
 use aeth_app::App;
 use aeth_base::NoMemory;
 use aeth_chip::Chip;
 use aeth_clocked::Order;
 use aeth_group::Groups;
-use aeth_plan::Plan;
+use aeth_plan::{Design, Plan, Planned};
 use aeth_report::SimLog;
 use aeth_trace::{Receivers, Switches, Words};
 use std::alloc::Global;
@@ -60,6 +62,36 @@ pub trait Machine: Drop {
             app.now plan.now words.now receivers.now switches.now cycles)) }
         ensures left { IfOk result (λ machine. left machine ≡ cycles) }
         ensures count { IfOk result (λ machine. 0 < count machine) };
+
+    /// The machine of accepted inputs as `make` gives it. It is handed their traces, so it may let go of what
+    /// it no longer needs of them before it takes its last memory.
+    fn make_of(
+        alloc: Global,
+        design: &Design,
+        planned: &Planned,
+        traces: Traces,
+        cycles: u32,
+    ) -> Result<Self, NoMemory>
+        requires groups { planned.now.groups ≡ groups_of design.now.app }
+        requires accepted { AreAccepted (inputs_of design.now planned.now.plan traces cycles) }
+        requires some { 1 ≤ cycles }
+        ensures plays { IfOk result (λ machine.
+            plays machine ≡ outcome (inputs_of design.now planned.now.plan traces cycles)) }
+        ensures left { IfOk result (λ machine. left machine ≡ cycles) }
+        ensures count { IfOk result (λ machine. 0 < count machine) }
+    {
+        Self::make(
+            alloc,
+            &design.chip,
+            &design.app,
+            &planned.groups,
+            &planned.plan,
+            &traces.words,
+            &traces.receivers,
+            &traces.switches,
+            cycles,
+        )
+    }
 
     /// The number of components, of which there is one at least.
     fn components(&self) -> u32

@@ -14,8 +14,8 @@ use aeth_report::SimLog;
 use std::alloc::Global;
 
 /// The log of accepted inputs, once a machine has played them. Its components take their turns in the
-/// order that begins with this turn. The traces are let go once the machine is made, so that the run and its
-/// log have their memory.
+/// order that begins with this turn. The machine is handed the traces, so that the run and its log have their
+/// memory.
 pub fn played<M: Machine>(
     alloc: Global,
     design: &Design,
@@ -32,37 +32,8 @@ pub fn played<M: Machine>(
     ensures regular { IfOk result (IsRegular design.now.app) }
 {
     M::regular();
-    let mut machine = made::<M>(alloc, design, planned, traces, cycles)?;
+    let mut machine = M::make_of(alloc, design, planned, traces, cycles)?;
     let order = Order::rotation(alloc, machine.components(), turn)?;
     machine.play(&order);
     Ok(machine.result())
-}
-
-// The machine of accepted inputs. The traces end with the call.
-fn made<M: Machine>(
-    alloc: Global,
-    design: &Design,
-    planned: &Planned,
-    traces: Traces,
-    cycles: u32,
-) -> Result<M, NoMemory>
-    requires groups { planned.now.groups ≡ groups_of design.now.app }
-    requires accepted { AreAccepted (inputs_of design.now planned.now.plan traces cycles) }
-    requires least { 1 ≤ cycles }
-    ensures plays { IfOk result (λ machine.
-        M.plays machine ≡ M.outcome (inputs_of design.now planned.now.plan traces cycles)) }
-    ensures left { IfOk result (λ machine. M.left machine ≡ cycles) }
-    ensures count { IfOk result (λ machine. 0 < M.count machine) }
-{
-    M::make(
-        alloc,
-        &design.chip,
-        &design.app,
-        &planned.groups,
-        &planned.plan,
-        &traces.words,
-        &traces.receivers,
-        &traces.switches,
-        cycles,
-    )
 }

@@ -45,7 +45,20 @@ module _ (all : Inside) (is : IsNetwork (vec_capacity all.state.replaced) (seen 
       (λ (one : Offer). one.cycle == all.time) old.stimuli.offers
       (λ one now any. grind (arith, nat_tests)) (λ k d within. tt)
 
-  -- They have room, once the sessions of the cycle have gone.
+  -- The components can do its events.
+  pub events-known : All (IsDoable (wirings_of all.state.components))
+      (events_in old.stimuli all.time)
+  events-known =
+      let wirings = wirings_of all.state.components in
+      let schedule = old.stimuli.schedule in
+      let from = passed (λ (cycle : ℕ). cycle) all.time schedule.cycles in
+      let to = passed (λ (cycle : ℕ). cycle) (all.time + 1) schedule.cycles in
+      subst (All (IsDoable wirings)) (events-range all.time schedule.cycles schedule.events
+      is.stimuli.event_cycles is.stimuli.event_order)
+      (All-take (IsDoable wirings) (to - from) (drop from schedule.events)
+      (All-drop (IsDoable wirings) from schedule.events is.stimuli.events))
+
+  -- The words have room, once the sessions of the cycle have gone.
   pub fit-started : AreFit (length all.state.components.words) (length all.state.components.parts)
       (untils_in old.stimuli all.time all.state.untils.items) (offers_in old.stimuli all.time)
       (fold gone_with all.state.components.channel_states (session_starts_in old.stimuli all.time))
@@ -172,17 +185,9 @@ module _ (all : Inside) (is : IsNetwork (vec_capacity all.state.replaced) (seen 
 
         pub events-doable : All (IsDoable (wirings_of entered)) rows.events.now
         events-doable =
-            let wirings = wirings_of all.state.components in
-            let schedule = old.stimuli.schedule in
-            let from = passed (λ (cycle : ℕ). cycle) all.time schedule.cycles in
-            let to = passed (λ (cycle : ℕ). cycle) (all.time + 1) schedule.cycles in
             rw (events, ready)
             (subst (λ (list : List Wiring). All (IsDoable list) (events_in old.stimuli all.time))
-            (sym (wirings-ready (vec_capacity all.state.replaced) old is))
-            (subst (All (IsDoable wirings)) (events-range all.time schedule.cycles schedule.events
-            is.stimuli.event_cycles is.stimuli.event_order)
-            (All-take (IsDoable wirings) (to - from) (drop from schedule.events)
-            (All-drop (IsDoable wirings) from schedule.events is.stimuli.events))))
+            (sym (wirings-ready (vec_capacity all.state.replaced) old is)) events-known)
 
         pub stepped-behind : (new : ComponentsState)
             → ComponentsCycle rows.events.now all.time entered new

@@ -150,8 +150,9 @@ module _ (inputs : Inputs) (accepted : AreAccepted inputs) (routing : Routing)
 -- All places are the first.
 pub AreCursors-first : (cursors : Cursors) (all : Stimuli) (routing : Routing) → cursors.event ≡ 0
     → cursors.session_start ≡ 0 → cursors.offer ≡ 0 → cursors.take ≡ 0 → cursors.window ≡ 0
-    → cursors.entering ≡ 0 → cursors.quiet_until ≡ 0 → AreCursors cursors 0 all routing
-AreCursors-first cursors all routing event session_start offer take window entering quiet = record {
+    → cursors.entering ≡ 0 → cursors.quiet_until ≡ 0 → cursors.calm_until ≡ 0
+    → AreCursors cursors 0 all routing
+AreCursors-first cursors all routing event session_start offer take window entering quiet calm = record {
   event_is = event ∙ sym (passed-first (λ (cycle : ℕ). cycle) all.schedule.cycles);
   session_start_is = session_start
       ∙ sym (passed-first (λ (one : SessionStart). one.channel_state.go)
@@ -160,14 +161,15 @@ AreCursors-first cursors all routing event session_start offer take window enter
   take_is = take ∙ sym (passed-first (λ (one : Take). one.cycle) all.takes);
   window_is = over-none cursors.window 0 all.schedule.windows window;
   entering_is = entering ∙ sym (passed-first (λ (one : Entering). one.cycle) (later_rows routing));
-  quiet = record {
-    events = quiet-first (λ (cycle : ℕ). cycle) _ _ all.schedule.cycles quiet;
+  quiet = quiet-first (λ (cycle : ℕ). cycle) _ _ all.schedule.cycles quiet;
+  calm = record {
     session_starts =
         quiet-first (λ (one : SessionStart). one.channel_state.go) _ _ all.schedule.session_starts
-        quiet;
-    takes = quiet-first (λ (one : Take). one.cycle) _ _ all.takes quiet;
-    enterings = quiet-first (λ (one : Entering). one.cycle) _ _ (later_rows routing) quiet;
+        calm;
+    takes = quiet-first (λ (one : Take). one.cycle) _ _ all.takes calm;
+    enterings = quiet-first (λ (one : Entering). one.cycle) _ _ (later_rows routing) calm;
   };
+  sooner = omega (arith, quiet, calm);
 }
 
 -- The components can do what is written before the first cycle, whatever the kind of routers.

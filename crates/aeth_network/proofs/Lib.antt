@@ -10,6 +10,7 @@ mod FewSessionStarts
 mod FirstComponents
 mod FirstSessionStarts
 mod FirstNetwork
+mod FirstLogs
 mod Firsts
 mod FitLemmas
 mod Followed

@@ -288,9 +288,8 @@ module _ (inputs : Inputs) (all : NetworkState) (quiet : (t k : ℕ) → t + k <
                 busy-then early ((iff k (omega arith) still).0 is_still);
           }
 
-  -- Where a wire has a flit it is the cycle that comes.
-  module _ (of : IsNetworkOf inputs all)
-      (some : ((l : ℕ) → flit_on all.components.wires l ≡ None) → ⊥) where
+  -- Where the cycle that comes doesn't leave it, it is that.
+  module _ (of : IsNetworkOf inputs all) (some : IsStill all → ⊥) where
     pub now-busy : IsNextBusy all all.time
     now-busy =
         let cycles = cycles-of inputs all of in
@@ -301,7 +300,7 @@ module _ (inputs : Inputs) (all : NetworkState) (quiet : (t k : ℕ) → t + k <
           to = omega arith;
           still = λ k less. absurd (omega arith);
           busy = λ early still. some
-              (subst IsStill (ap (λ n. played n all) none ∙ played-zero all) still).empty;
+              (subst IsStill (ap (λ n. played n all) none ∙ played-zero all) still);
         }
 
 -- Of accepted inputs it is the next cycle of their run that isn't idle.

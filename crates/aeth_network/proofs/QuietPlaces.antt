@@ -3,10 +3,12 @@ use Rattle.std.proofs.Common.{◌≡◌, ◌≤◌, ◌<◌, ◌+◌, ◌-◌, �
 use Rattle.std.proofs.Common.{filter, sym, take, slice_range}
 use Rattle.std.specs.List.Sorted.{IsNonDecreasingBy}
 use Rattle.aeth_schedule.specs.declared.session_start.SessionStart.{SessionStart}
-use Rattle.aeth_stimuli.specs.{Stimuli.Take, Events.events_in}
-use Rattle.aeth_running.specs.{Network.NetworkState, Routing.Entering, Routing.later_rows}
-use Rattle.aeth_network.specs.{Behind.passed, Brought.BringsWords, Cursors.AreCursors}
-use Rattle.aeth_network.specs.{Cursors.AreInOrder, declared.given.Cursors.Cursors}
+use Rattle.aeth_stimuli.specs.{Events.events_in, Stimuli.Stimuli, Stimuli.Take}
+use Rattle.aeth_running.specs.Network.{NetworkState}
+use Rattle.aeth_running.specs.Routing.{Entering, Routing, later_rows}
+use Rattle.aeth_network.specs.{Behind.passed, Brought.BringsWords, Brought.IsCalm, Windows.AreOver}
+use Rattle.aeth_network.specs.{Cursors.AreCursors, Cursors.AreInOrder}
+use Rattle.aeth_network.specs.{declared.given.Cursors.Cursors}
 use Rattle.aeth_network.proofs.{MappedRows.events-range, Passed.passed-first, Passed.passed-range}
 use Rattle.aeth_network.proofs.{Ready.length-in, RestingChannelStates.passed-rises}
 use Rattle.aeth_network.proofs.{Skipping.events-still, WindowLemmas.over-later}
@@ -54,27 +56,37 @@ module _ {X : Type 0} (key : X → ℕ) (t until place : ℕ) (xs : List X) (pla
   none-now rises =
       sym (passed-range key t xs rises) ∙ range-none xs (passed key t xs) (passed key (t + 1) xs) no-more
 
--- A cycle before the quiet one brings nothing but words.
+-- A cycle before the calm one brings nothing but words and events.
+pub calm-now : (cursors : Cursors) (t : ℕ) (all : Stimuli) (routing : Routing)
+    → AreInOrder all routing → AreCursors cursors t all routing → t < cursors.calm_until
+    → IsCalm all routing t
+calm-now cursors t all routing order at before =
+    let until = cursors.calm_until in
+    record {
+      ungone = none-now (λ (one : SessionStart). one.channel_state.go) t until cursors.session_start
+          all.schedule.session_starts at.session_start_is at.calm.session_starts before
+          order.session_starts;
+      untaken = none-now (λ (one : Take). one.cycle) t until cursors.take all.takes at.take_is
+          at.calm.takes before order.takes;
+      unentered = none-now (λ (one : Entering). one.cycle) t until cursors.entering
+          (later_rows routing) at.entering_is at.calm.enterings before order.enterings;
+    }
+
+-- And one before the quiet one nothing but words.
 pub brings-words : (cursors : Cursors) (all : NetworkState) → AreInOrder all.stimuli all.routing
     → AreCursors cursors all.time all.stimuli all.routing → all.time < cursors.quiet_until
     → BringsWords all
 brings-words cursors all order at before =
     let t = all.time in
-    let until = cursors.quiet_until in
     let cycles = all.stimuli.schedule.cycles in
     let events = all.stimuli.schedule.events in
     let cycle = λ (one : ℕ). one in
+    let sooner = at.sooner in
     record {
+      calm = calm-now cursors t all.stimuli all.routing order at (omega (arith, before, sooner));
       eventless = sym (events-range t cycles events order.event_cycles order.events)
           ∙ range-none events (passed cycle t cycles) (passed cycle (t + 1) cycles)
-          (no-more cycle t until cursors.event cycles at.event_is at.quiet.events before);
-      ungone = none-now (λ (one : SessionStart). one.channel_state.go) t until cursors.session_start
-          all.stimuli.schedule.session_starts at.session_start_is at.quiet.session_starts before
-          order.session_starts;
-      untaken = none-now (λ (one : Take). one.cycle) t until cursors.take all.stimuli.takes
-          at.take_is at.quiet.takes before order.takes;
-      unentered = none-now (λ (one : Entering). one.cycle) t until cursors.entering
-          (later_rows all.routing) at.entering_is at.quiet.enterings before order.enterings;
+          (no-more cycle t cursors.quiet_until cursors.event cycles at.event_is at.quiet before);
     }
 
 -- As many rows lie before the next cycle where none is of this one.
@@ -84,35 +96,52 @@ passed-next key t xs rises none =
     let size = length-in key t xs [] (passed-range key t xs rises ∙ none) in
     omega (arith, size)
 
--- Behind such a cycle only the place in the words has moved.
+-- Behind a calm cycle only the places in the events, the words and the windows have moved.
+pub cursors-calm : (cursors : Cursors) (t : ℕ) (all : Stimuli) (routing : Routing)
+    (event offer window quiet : ℕ) → AreInOrder all routing → AreCursors cursors t all routing
+    → IsCalm all routing t → event ≡ passed (λ cycle. cycle) (t + 1) all.schedule.cycles
+    → offer ≡ passed (λ one. one.cycle) (t + 1) all.offers
+    → AreOver window (t + 1) all.schedule.windows
+    → passed (λ cycle. cycle) quiet all.schedule.cycles ≤ event → quiet ≤ cursors.calm_until
+    → AreCursors
+    (record cursors { event = event; offer = offer; window = window; quiet_until = quiet })
+    (t + 1) all routing
+cursors-calm cursors t all routing event offer window quiet order at calm events offers over until
+    sooner =
+    let session_start = λ (one : SessionStart). one.channel_state.go in
+    let taking = λ (one : Take). one.cycle in
+    let entering = λ (one : Entering). one.cycle in
+    record {
+      event_is = events;
+      session_start_is = at.session_start_is
+          ∙ sym (passed-next session_start t all.schedule.session_starts order.session_starts
+          calm.ungone);
+      offer_is = offers;
+      take_is = at.take_is ∙ sym (passed-next taking t all.takes order.takes calm.untaken);
+      window_is = over;
+      entering_is = at.entering_is
+          ∙ sym (passed-next entering t (later_rows routing) order.enterings calm.unentered);
+      quiet = until;
+      calm = record {
+        session_starts = at.calm.session_starts;
+        takes = at.calm.takes;
+        enterings = at.calm.enterings;
+      };
+      sooner = sooner;
+    }
+
+-- Behind one that brings nothing but words only the place in the words has.
 pub cursors-words : (cursors : Cursors) (all : NetworkState) (last : ℕ)
     → AreInOrder all.stimuli all.routing → AreCursors cursors all.time all.stimuli all.routing
     → BringsWords all → last ≡ passed (λ one. one.cycle) (all.time + 1) all.stimuli.offers
     → AreCursors (record cursors { offer = last }) (all.time + 1) all.stimuli all.routing
 cursors-words cursors all last order at brings is =
     let t = all.time in
-    let quiet = at.quiet in
-    let session_start = λ (one : SessionStart). one.channel_state.go in
-    let taking = λ (one : Take). one.cycle in
-    let entering = λ (one : Entering). one.cycle in
-    record {
-      event_is = at.event_is ∙ sym (events-still all.stimuli all.routing order t 1
-          (λ j less.
-          let same : t + j ≡ t = omega arith in
-          ap (events_in all.stimuli) same ∙ brings.eventless));
-      session_start_is = at.session_start_is
-          ∙ sym (passed-next session_start t all.stimuli.schedule.session_starts
-          order.session_starts brings.ungone);
-      offer_is = is;
-      take_is = at.take_is ∙ sym (passed-next taking t all.stimuli.takes order.takes brings.untaken);
-      window_is = over-later cursors.window t (t + 1) all.stimuli.schedule.windows (omega arith)
-          at.window_is;
-      entering_is = at.entering_is
-          ∙ sym (passed-next entering t (later_rows all.routing) order.enterings brings.unentered);
-      quiet = record {
-        events = quiet.events;
-        session_starts = quiet.session_starts;
-        takes = quiet.takes;
-        enterings = quiet.enterings;
-      };
-    }
+    cursors-calm cursors t all.stimuli all.routing cursors.event last cursors.window
+    cursors.quiet_until order at brings.calm
+    (at.event_is ∙ sym (events-still all.stimuli all.routing order t 1 (λ j less.
+    let same : t + j ≡ t = omega arith in
+    ap (events_in all.stimuli) same ∙ brings.eventless)))
+    is
+    (over-later cursors.window t (t + 1) all.stimuli.schedule.windows (omega arith) at.window_is)
+    at.quiet at.sooner

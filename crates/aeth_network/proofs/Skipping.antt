@@ -173,10 +173,10 @@ module _ (all : NetworkState) (order : AreInOrder all.stimuli all.routing) (k : 
       let events = events-still all.stimuli all.routing order all.time k no-events in
       let enterings = passed-still (λ (one : Entering). one.cycle) all.time k
       (later_rows all.routing) order.enterings unentered in
-      let quiet = at.quiet in
+      let calm = at.calm in
       let takes = passed-rises (λ (one : Take). one.cycle) all.time k all.stimuli.takes in
       let taken = at.take_is in
-      let takes_quiet = quiet.takes in
+      let takes_calm = calm.takes in
       record {
         event_is = at.event_is ∙ sym events;
         session_start_is = at.session_start_is ∙ sym session_starts;
@@ -185,12 +185,13 @@ module _ (all : NetworkState) (order : AreInOrder all.stimuli all.routing) (k : 
         window_is = over-later cursors.window all.time (all.time + k) all.stimuli.schedule.windows
             (omega arith) at.window_is;
         entering_is = at.entering_is ∙ sym enterings;
-        quiet = record {
-          events = quiet.events;
-          session_starts = quiet.session_starts;
-          takes = omega (arith, takes_quiet, taken, takes, is);
-          enterings = quiet.enterings;
+        quiet = at.quiet;
+        calm = record {
+          session_starts = calm.session_starts;
+          takes = omega (arith, takes_calm, taken, takes, is);
+          enterings = calm.enterings;
         };
+        sooner = at.sooner;
       }
 
 -- A cycle that leaves a network of accepted inputs does just what it brings.

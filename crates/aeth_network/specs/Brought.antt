@@ -2,7 +2,7 @@
 --
 --   CanBring      the state has room for what comes
 --   IsBrought      the state with what has come
---   BringsWords      nothing but words comes
+--   IsCalm, BringsWords      nothing but words and events comes, and nothing but words
 -- This project's own.
 use Rattle.std.proofs.Common.{◌≡◌, ◌≤◌, ◌<◌, ◌*◌, ◌+◌, ◌++◌, ◌^◌, ℕ, [], All, fold, length, map}
 use Rattle.std.proofs.Common.{vec_capacity}
@@ -10,10 +10,10 @@ use Rattle.std.specs.List.{slice_index_or}
 use Rattle.aeth_app.specs.Limits.{max_connections}
 use Rattle.aeth_trace.specs.Channels.{channel_number}
 use Rattle.aeth_components.specs.ChannelStates.{IsChannelState}
-use Rattle.aeth_stimuli.specs.{Loaded.no_channel_state, Events.events_in}
+use Rattle.aeth_stimuli.specs.{Events.events_in, Loaded.no_channel_state, Stimuli.Stimuli}
 use Rattle.aeth_running.specs.Network.{NetworkState, accepted_with, gone_with, session_starts_in}
 use Rattle.aeth_running.specs.Network.{outside_with, takes_in, taking_with, until_with}
-use Rattle.aeth_running.specs.Routing.{enterings_in}
+use Rattle.aeth_running.specs.Routing.{Routing, enterings_in}
 use Rattle.aeth_network.specs.Fits.{AreFit, HaveCounts}
 use Rattle.aeth_network.specs.declared.{given.CycleRows.CycleRows, state.State.State}
 
@@ -56,10 +56,14 @@ pub record IsBrought (rows : CycleRows) (time : ℕ) (old new : State) : Type 0 
       rows.session_starts
   pub capacity : vec_capacity old.replaced ≤ vec_capacity new.replaced
 
--- A network's next cycle brings nothing but words: it has no events, no session goes, no row of a
--- receiver comes, and no rows enter tables.
+-- A cycle brings nothing but words and events: no session goes, no row of a receiver comes, and no rows
+-- enter tables.
+pub record IsCalm (all : Stimuli) (routing : Routing) (t : ℕ) : Type 0 where
+  pub ungone : session_starts_in all t ≡ []
+  pub untaken : takes_in all t ≡ []
+  pub unentered : enterings_in routing t ≡ []
+
+-- A network's next cycle brings nothing but words.
 pub record BringsWords (all : NetworkState) : Type 0 where
+  pub calm : IsCalm all.stimuli all.routing all.time
   pub eventless : events_in all.stimuli all.time ≡ []
-  pub ungone : session_starts_in all.stimuli all.time ≡ []
-  pub untaken : takes_in all.stimuli all.time ≡ []
-  pub unentered : enterings_in all.routing all.time ≡ []

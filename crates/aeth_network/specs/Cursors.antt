@@ -1,9 +1,10 @@
--- How far a network is in what it is given. Beside the cursors stands a cycle before which nothing comes but words. So
--- most busy cycles look at the words alone, and it is found anew where something else came.
+-- How far a network is in what it is given. Beside the cursors stand a cycle before which nothing comes but words, and
+-- one before which nothing comes but words and events. So most busy cycles look at the words alone, those in which a
+-- switch writes at these and the events, and both are found anew where something else came.
 --
 --   stimuli_with, routing_with      what a network is given, and by what its routers send on
 --   AreInOrder      what is given comes in the order of cycles
---   IsQuietUntil      a cycle before which no row comes from places on but those of words
+--   IsCalmUntil      a cycle before which no row comes from places on but those of words and events
 --   AreCursors      the places in the events, the sessions, the offered words, the receivers' rows, the
 --       windows of switches, and the rows that enter tables
 -- This project's own.
@@ -36,16 +37,17 @@ pub record AreInOrder (all : Stimuli) (routing : Routing) : Type 0 where
   pub takes : IsNonDecreasingBy (λ one. one.cycle) all.takes
   pub enterings : IsNonDecreasingBy (λ one. one.cycle) (later_rows routing)
 
--- No row but those of words lies behind the places and before the cycle that is noted beside them.
-pub record IsQuietUntil (cursors : Cursors) (all : Stimuli) (routing : Routing) : Type 0 where
-  pub events : passed (λ cycle. cycle) cursors.quiet_until all.schedule.cycles ≤ cursors.event
-  pub session_starts : passed (λ one. one.channel_state.go) cursors.quiet_until
-      all.schedule.session_starts ≤ cursors.session_start
-  pub takes : passed (λ one. one.cycle) cursors.quiet_until all.takes ≤ cursors.take
-  pub enterings : passed (λ one. one.cycle) cursors.quiet_until (later_rows routing)
-      ≤ cursors.entering
+-- No row but those of words and events lies behind the places and before a cycle.
+pub record IsCalmUntil (until : ℕ) (cursors : Cursors) (all : Stimuli) (routing : Routing) : Type 0
+  where
+    pub session_starts : passed (λ one. one.channel_state.go) until all.schedule.session_starts
+        ≤ cursors.session_start
+    pub takes : passed (λ one. one.cycle) until all.takes ≤ cursors.take
+    pub enterings : passed (λ one. one.cycle) until (later_rows routing) ≤ cursors.entering
 
--- Each place is the number of rows that lie before a cycle; before that of the windows all are over.
+-- Each place is the number of rows that lie before a cycle; before that of the windows all are over. No
+-- event lies behind them and before the one cycle that is noted, and no other row but those of words
+-- before the other.
 pub record AreCursors (cursors : Cursors) (time : ℕ) (all : Stimuli) (routing : Routing) : Type 0
   where
     pub event_is : cursors.event ≡ passed (λ cycle. cycle) time all.schedule.cycles
@@ -55,4 +57,6 @@ pub record AreCursors (cursors : Cursors) (time : ℕ) (all : Stimuli) (routing 
     pub take_is : cursors.take ≡ passed (λ one. one.cycle) time all.takes
     pub window_is : AreOver cursors.window time all.schedule.windows
     pub entering_is : cursors.entering ≡ passed (λ one. one.cycle) time (later_rows routing)
-    pub quiet : IsQuietUntil cursors all routing
+    pub quiet : passed (λ cycle. cycle) cursors.quiet_until all.schedule.cycles ≤ cursors.event
+    pub calm : IsCalmUntil cursors.calm_until cursors all routing
+    pub sooner : cursors.quiet_until ≤ cursors.calm_until

@@ -11,4 +11,5 @@ pub mod Records
 pub mod Routes
 pub mod Runs
 pub mod Logging
+pub mod Unlogged
 pub mod Windows

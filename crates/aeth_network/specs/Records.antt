@@ -1,15 +1,17 @@
 -- What the log of a run is made from, apart from its inputs.
 --
---   channel_from      a channel with its sessions, of which nothing has landed yet
+--   channel_from, log_from      a channel with its sessions, of which nothing has landed yet, and the log
 --   added_by      the channel of a number with more sessions
 --   AreOffered, IsFresh      words of a run, and sessions whose words are there
 -- This project's own.
-use Rattle.std.proofs.Common.{◌≡◌, ◌≤◌, ◌+◌, ◌++◌, ℕ, All, List, length, map}
+use Rattle.std.proofs.Common.{◌≡◌, ◌≤◌, ◌+◌, ◌++◌, ℕ, All, List, length, map, replicate}
 use Rattle.aeth_base.specs.{Limits.max_cycles, declared.ids.Channel.Channel}
+use Rattle.aeth_chip.specs.Chip.{ChipData}
+use Rattle.aeth_app.specs.App.{AppData}
 use Rattle.aeth_server.specs.{ChannelShape.IsShapeInRange, Limits.max_session_words}
 use Rattle.aeth_trace.specs.{Channels.channel_number, Words.words_on}
 use Rattle.aeth_trace.specs.{declared.words.WordRow.WordRow}
-use Rattle.aeth_report.specs.Log.{ChannelData}
+use Rattle.aeth_report.specs.{Channels.channels_of, Log.ChannelData, Log.LogData}
 use Rattle.aeth_schedule.specs.declared.session_start.SessionStart.{SessionStart}
 use Rattle.aeth_running.specs.FirstLog.{first_session}
 use Rattle.aeth_stimuli.specs.Stimuli.{session_starts_over}
@@ -21,6 +23,15 @@ channel_from words cycles session_starts channel = record {
   sessions = map (first_session words cycles)
       (session_starts_over (channel_number channel) session_starts);
   outside = 0;
+}
+
+-- The log of a chip and an application in a run of so many cycles, with some sessions.
+abbrev pub log_from : ChipData → AppData → List WordRow → ℕ → List SessionStart → LogData
+log_from chip app words cycles session_starts = record {
+  cycles = cycles;
+  channels = map (channel_from words cycles session_starts)
+      (channels_of (length app.connections));
+  flits = replicate (length chip.links) 0;
 }
 
 -- The channel of a number, with those of some more sessions that go over it.

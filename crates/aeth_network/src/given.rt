@@ -1,6 +1,6 @@
 // What a run gives a network, and what of it each cycle brings.
 
-ghost use Rattle.std.specs.Prelude.{◌≡◌, ◌≤◌, ◌⊎◌, ◌+◌, IfOk};
+ghost use Rattle.std.specs.Prelude.{◌≡◌, ◌≢◌, ◌≤◌, ◌<◌, ◌⊎◌, ◌+◌, [], IfOk, IsTrue};
 ghost use Rattle.aeth_components.specs.First.{IsFirst};
 ghost use Rattle.aeth_stimuli.specs.Events.{events_in};
 ghost use Rattle.aeth_running.specs.Network.{session_starts_in, offers_in, takes_in};
@@ -8,6 +8,7 @@ ghost use Rattle.aeth_schedule.specs.Schedule.{schedule_of};
 ghost use Rattle.aeth_stimuli.specs.Stimuli.{stimuli_of};
 ghost use Rattle.aeth_running.specs.Routing.{later_rows};
 ghost use Rattle.aeth_network.specs.Behind.{IsBehind, passed};
+ghost use Rattle.aeth_network.specs.Brought.{IsCalm};
 ghost use Rattle.aeth_network.specs.Cursors.{AreCursors, AreInOrder, routing_with, stimuli_with};
 ghost use Rattle.aeth_network.specs.Next.{HasOffer, HasWindow};
 ghost use Rattle.aeth_network.specs.Routes.{routing_in};
@@ -36,8 +37,8 @@ pub(crate) struct Given {
 }
 
 // How far a network is in its events, its sessions, its words, the rows of receivers, the windows of its
-// switches, and the rows that enter tables; and a cycle before which no row comes from these places on but
-// those of words.
+// switches, and the rows that enter tables; a cycle before which no row comes from these places on but
+// those of words; and one before which none comes but those of words and events.
 #[derive(Clone, Copy)]
 pub(crate) struct Cursors {
     pub event: usize,
@@ -47,6 +48,7 @@ pub(crate) struct Cursors {
     pub window: usize,
     pub entering: usize,
     pub quiet_until: u32,
+    pub calm_until: u32,
 }
 
 // What a cycle brings, with the tables of routers, and the places behind it.
@@ -57,6 +59,14 @@ pub(crate) struct CycleRows<'a> {
     pub offers: &'a [Offered],
     pub takes: &'a [Taking],
     pub tables: &'a Option<UseTables>,
+    pub behind: Cursors,
+}
+
+// What a cycle brings that brings nothing but words and events, and the places behind it.
+#[derive(Drop)]
+pub(crate) struct CalmRows<'a> {
+    pub events: &'a [Event],
+    pub offers: &'a [Offered],
     pub behind: Cursors,
 }
 
@@ -98,6 +108,15 @@ impl Given {
         next_window(self.schedule.windows(), from.window, time, next)
     }
 
+    // Whether a cycle has an event. These are the places that were come to.
+    pub(crate) fn has_event(&self, from: Cursors, time: u32) -> bool
+        requires order { AreInOrder (stimuli_with self.now) (routing_with self.now) }
+        requires from { AreCursors from time (stimuli_with self.now) (routing_with self.now) }
+        ensures { IsTrue result → events_in (stimuli_with self.now) time ≢ [] }
+    {
+        from.event < behind(self.schedule.cycles(), from.event, time)
+    }
+
     // What a cycle brings, from these places on.
     pub(crate) fn rows(&self, from: Cursors, time: u32) -> CycleRows<'_>
         requires order { AreInOrder (stimuli_with self.now) (routing_with self.now) }
@@ -120,6 +139,7 @@ impl Given {
         let take = behind(&self.takes, from.take, time);
         let window = place_behind(self.schedule.windows(), from.window, time);
         let entering = behind_entering(&self.tables, from.entering, time);
+        let calm_until = self.calm_until(session_start, take, entering);
         CycleRows {
             events: self.schedule.events(from.event, event),
             session_starts: session_starts.range(from.session_start, session_start),
@@ -133,17 +153,42 @@ impl Given {
                 take,
                 window,
                 entering,
-                quiet_until: self.quiet_until(event, session_start, take, entering),
+                quiet_until: quiet_until(self.schedule.cycles(), event, calm_until),
+                calm_until,
             },
         }
     }
 
-    // A cycle before which no event comes from these places on, no session goes, no row of a receiver
-    // comes, and no rows enter tables.
-    fn quiet_until(&self, event: usize, session_start: usize, take: usize, entering: usize) -> u32
+    // What a cycle brings that brings nothing but words and events, from these places on.
+    pub(crate) fn calm_rows(&self, from: Cursors, time: u32) -> CalmRows<'_>
+        requires order { AreInOrder (stimuli_with self.now) (routing_with self.now) }
+        requires from { AreCursors from time (stimuli_with self.now) (routing_with self.now) }
+        requires calm { IsCalm (stimuli_with self.now) (routing_with self.now) time }
+        ensures events { result.events.now ≡ events_in (stimuli_with self.now) time }
+        ensures offers { result.offers.now ≡ offers_in (stimuli_with self.now) time }
+        ensures behind { AreCursors result.behind (time + 1) (stimuli_with self.now)
+            (routing_with self.now) }
+    {
+        let event = behind(self.schedule.cycles(), from.event, time);
+        let offer = behind(&self.offers, from.offer, time);
+        let window = place_behind(self.schedule.windows(), from.window, time);
+        CalmRows {
+            events: self.schedule.events(from.event, event),
+            offers: &self.offers[from.offer..offer],
+            behind: Cursors {
+                event,
+                offer,
+                window,
+                quiet_until: quiet_until(self.schedule.cycles(), event, from.calm_until),
+                ..from
+            },
+        }
+    }
+
+    // A cycle before which no session goes from these places on, no row of a receiver comes, and no rows
+    // enter tables.
+    fn calm_until(&self, session_start: usize, take: usize, entering: usize) -> u32
         requires { AreInOrder (stimuli_with self.now) (routing_with self.now) }
-        ensures events { passed (λ cycle. cycle) result (stimuli_with self.now).schedule.cycles
-            ≤ event }
         ensures session_starts { passed (λ one. one.channel_state.go) result
             (stimuli_with self.now).schedule.session_starts
             ≤ session_start }
@@ -151,8 +196,11 @@ impl Given {
         ensures enterings { passed (λ one. one.cycle) result (later_rows (routing_with self.now))
             ≤ entering }
     {
-        let until = quiet_until(self.schedule.cycles(), event, u32::MAX);
-        let until = quiet_until(self.schedule.session_starts().list(), session_start, until);
+        let until = quiet_until(
+            self.schedule.session_starts().list(),
+            session_start,
+            u32::MAX,
+        );
         let until = quiet_until(&self.takes, take, until);
         unentered_until(&self.tables, entering, until)
     }

@@ -16,6 +16,7 @@ mod state;
 mod tables;
 mod windows;
 
+pub use beginning::UnloggedNetwork;
 pub use network::RoutedNetwork;
 pub use simulating::{simulate, simulate_counted};
 pub use tables::{UseRows, UseTables};

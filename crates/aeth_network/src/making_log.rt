@@ -1,14 +1,13 @@
 // The log of a run before its first cycle: with a row for each word that a session accepts.
 
 ghost use Rattle.std.specs.Prelude.{◌≡◌, ◌<◌, ◌*◌, ◌++◌, ◌∷◌, [], All, IfOk, length, map};
-ghost use Rattle.std.specs.Prelude.{replicate};
 ghost use Rattle.std.specs.List.{range_with_len};
 ghost use Rattle.aeth_app.specs.Limits.{max_connections};
 ghost use Rattle.aeth_trace.specs.Channels.{channel_number};
 ghost use Rattle.aeth_report.specs.Channels.{channels_of};
 ghost use Rattle.aeth_running.specs.FirstLog.{first_row, first_session};
 ghost use Rattle.aeth_network.specs.ByNumber.{each_by};
-ghost use Rattle.aeth_network.specs.Records.{AreOffered, IsFresh, added_by, channel_from};
+ghost use Rattle.aeth_network.specs.Records.{AreOffered, IsFresh, added_by, channel_from, log_from};
 
 use aeth_app::App;
 use aeth_base::{Channel, ConnId, NoMemory, Side};
@@ -32,12 +31,8 @@ pub(crate) fn first_log(
     requires session_starts { All (IsFresh words.now) session_starts.now }
     requires known { All (λ one. channel_number one.channel < 2 * max_connections)
         session_starts.now }
-    ensures { IfOk result (λ log. log ≡ record {
-      cycles = cycles;
-      channels = map (channel_from words.now cycles session_starts.now)
-          (channels_of (length app.now.connections));
-      flits = replicate (length chip.now.links) 0;
-    }) }
+    ensures { IfOk result (λ log.
+        log ≡ log_from chip.now app.now words.now cycles session_starts.now) }
 {
     let counts = counts_of(alloc, app, session_starts)?;
     let mut channels = first_channels(alloc, app, &counts)?;

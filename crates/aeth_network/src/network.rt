@@ -10,7 +10,7 @@ ghost use Rattle.aeth_running.specs.Network.{played, stepped};
 ghost use Rattle.aeth_running.specs.Quiet.{AreStill, IsNextBusy};
 ghost use Rattle.aeth_running.specs.Still.{IsStill};
 ghost use Rattle.aeth_running.specs.Logged.{logged};
-ghost use Rattle.aeth_network.specs.Brought.{BringsWords};
+ghost use Rattle.aeth_network.specs.Brought.{BringsWords, IsCalm};
 ghost use Rattle.aeth_network.specs.Runs.{AreWiresOf, IsNetworkOf};
 
 use crate::given::{Cursors, Given};
@@ -125,6 +125,8 @@ impl RoutedNetwork {
         aeth_running::laws::cycles_lose_nothing();
         if self.time < self.cursors.quiet_until {
             self.cycle_with_words(order, steps);
+        } else if self.time < self.cursors.calm_until {
+            self.cycle_with_events(order, steps);
         } else {
             self.cycle_with_rows(order, steps);
         }
@@ -153,6 +155,31 @@ impl RoutedNetwork {
             .components
             .step_counted(order, self.time, &[], steps);
         self.cursors.offer = last;
+        self.time += 1;
+    }
+
+    // One more cycle, which brings nothing but words and events.
+    fn cycle_with_events<L: Ledger>(&mut self, order: &Order, steps: &mut Steps<L>)
+        requires order { length order.now ≡ length self.old.components.parts }
+        requires time { self.old.time < self.old.log.cycles }
+        requires calm { IsCalm self.old.stimuli self.old.routing self.old.time }
+        ensures steps { self.new ≡ stepped self.old }
+        ensures parts { length self.new.components.parts ≡ length self.old.components.parts }
+        ensures counted { steps.new ≤ steps.old + 2 * flits_on self.old.components.wires
+            + 2 * flits_on self.new.components.wires }
+    {
+        let rows = self.given.calm_rows(self.cursors, self.time);
+        offer(
+            &mut self.state.components,
+            &self.state.untils,
+            &mut self.state.outside,
+            rows.offers,
+            self.time,
+        );
+        self.state
+            .components
+            .step_counted(order, self.time, rows.events, steps);
+        self.cursors = rows.behind;
         self.time += 1;
     }
 
@@ -219,7 +246,9 @@ impl RoutedNetwork {
     {
         aeth_running::laws::quiet_cycles_are_still();
         let time = self.time();
-        if self.state.components.are_wires_empty() {
+        if self.given.has_event(self.cursors, time) {
+            time
+        } else if self.state.components.are_wires_empty() {
             let next = self.given.next(self.cursors, time, self.cycles());
             let components = &self.state.components;
             let next = next_own(components, time, next);

@@ -12,8 +12,8 @@ use aeth_base::NoMemory;
 use aeth_chip::Chip;
 use aeth_clocked::Order;
 use aeth_group::Groups;
-use aeth_machine::Machine;
-use aeth_plan::Plan;
+use aeth_machine::{Machine, Traces};
+use aeth_plan::{Design, Plan, Planned};
 use aeth_report::SimLog;
 use aeth_trace::{Receivers, Switches, Words};
 use std::alloc::Global;
@@ -46,6 +46,17 @@ impl Machine for Network {
         Network::new(
             alloc, chip, app, groups, plan, words, receivers, switches, cycles,
         )
+    }
+
+    fn make_of(
+        alloc: Global,
+        design: &Design,
+        planned: &Planned,
+        traces: Traces,
+        cycles: u32,
+    ) -> Result<Network, NoMemory> {
+        aeth_running::laws::networks_log();
+        Network::of_traces(alloc, design, planned, traces, cycles)
     }
 
     fn components(&self) -> u32 {

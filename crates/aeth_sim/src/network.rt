@@ -2,6 +2,7 @@
 
 ghost use Rattle.std.specs.Prelude.{◌≡◌, ◌≤◌, ◌<◌, ◌+◌, ◌-◌, ◌*◌, IfOk, length};
 ghost use Rattle.aeth_group.specs.Members.{groups_of};
+ghost use Rattle.aeth_machine.specs.RunInputs.{inputs_of};
 ghost use Rattle.aeth_components.specs.FlitsOnWires.{flits_on};
 ghost use Rattle.aeth_report.specs.RunLog.{log_of};
 ghost use Rattle.aeth_accepted.specs.Inputs.{AreAccepted, Inputs, inputs_with, run_of};
@@ -13,6 +14,7 @@ ghost use Rattle.aeth_running.specs.Quiet.{AreStill, IsNextBusy};
 ghost use Rattle.aeth_running.specs.Logged.{logged};
 ghost use Rattle.aeth_network.specs.Carried.{carried_in};
 ghost use Rattle.aeth_network.specs.Runs.{AreWiresOf, IsNetworkOf};
+ghost use Rattle.aeth_network.specs.Unlogged.{logged_with};
 
 use aeth_accepted::{BorrowedTraces, RunInputs};
 use aeth_app::App;
@@ -20,8 +22,9 @@ use aeth_base::{NoMemory, Steps};
 use aeth_chip::Chip;
 use aeth_clocked::{Order, Wires};
 use aeth_group::Groups;
-use aeth_network::RoutedNetwork;
-use aeth_plan::Plan;
+use aeth_machine::Traces;
+use aeth_network::{RoutedNetwork, UnloggedNetwork};
+use aeth_plan::{Design, Plan, Planned};
 use aeth_report::SimLog;
 use aeth_scheduling::schedule_of;
 use aeth_trace::{Receivers, Switches, Words};
@@ -76,6 +79,45 @@ impl Network {
         let inputs = RunInputs::of(chip, app, groups, plan, traces, cycles);
         let schedule = schedule_of(alloc, &inputs)?;
         let routed = RoutedNetwork::new(alloc, &inputs, schedule)?;
+        Ok(Network { routed })
+    }
+
+    /// The same network of a design, a plan for it and traces. It is handed the traces, and lets the rows of
+    /// receivers go before its log is made.
+    pub fn of_traces(
+        alloc: Global,
+        design: &Design,
+        planned: &Planned,
+        traces: Traces,
+        cycles: u32,
+    ) -> Result<Network, NoMemory>
+        requires groups { planned.now.groups ≡ groups_of design.now.app }
+        requires accepted { AreAccepted (inputs_of design.now planned.now.plan traces cycles) }
+        ensures first { IfOk result (λ network. network ≡ first_network
+            (inputs_of design.now planned.now.plan traces cycles) ByHeaders) }
+        ensures run { IfOk result
+            (IsNetworkOf (inputs_of design.now planned.now.plan traces cycles)) }
+    {
+        let Traces {
+            words,
+            receivers,
+            switches,
+        } = traces;
+        let inputs = RunInputs::of(
+            &design.chip,
+            &design.app,
+            &planned.groups,
+            &planned.plan,
+            BorrowedTraces {
+                words: &words,
+                receivers: &receivers,
+                switches: &switches,
+            },
+            cycles,
+        );
+        let unlogged = unlogged(alloc, &inputs)?;
+        drop(receivers);
+        let routed = unlogged.with_log(alloc, &design.chip, &design.app, &words, cycles)?;
         Ok(Network { routed })
     }
 
@@ -181,6 +223,17 @@ impl Network {
     {
         self.routed.log()
     }
+}
+
+// The network of accepted inputs before the first of their cycles, but for its log.
+fn unlogged(alloc: Global, inputs: &RunInputs) -> Result<UnloggedNetwork, NoMemory>
+    ensures first { IfOk result (λ network. logged_with inputs.now network
+        ≡ first_network inputs.now ByHeaders) }
+    ensures run { IfOk result (λ network. IsNetworkOf inputs.now
+        (logged_with inputs.now network)) }
+{
+    let schedule = schedule_of(alloc, inputs)?;
+    UnloggedNetwork::new(alloc, inputs, schedule)
 }
 
 /// Plays all cycles of the run that are left.

@@ -13,8 +13,8 @@ use aeth_base::NoMemory;
 use aeth_chip::Chip;
 use aeth_clocked::Order;
 use aeth_group::Groups;
-use aeth_machine::Machine;
-use aeth_plan::Plan;
+use aeth_machine::{Machine, Traces};
+use aeth_plan::{Design, Plan, Planned};
 use aeth_report::SimLog;
 use aeth_trace::{Receivers, Switches, Words};
 use std::alloc::Global;
@@ -48,6 +48,18 @@ impl Machine for TableNetwork {
         TableNetwork::new(
             alloc, chip, app, groups, plan, words, receivers, switches, cycles,
         )
+    }
+
+    fn make_of(
+        alloc: Global,
+        design: &Design,
+        planned: &Planned,
+        traces: Traces,
+        cycles: u32,
+    ) -> Result<TableNetwork, NoMemory> {
+        aeth_running::laws::networks_log();
+        laws::tables_route();
+        TableNetwork::of_traces(alloc, design, planned, traces, cycles)
     }
 
     fn components(&self) -> u32 {

@@ -2,12 +2,14 @@
 
 ghost use Rattle.std.specs.Prelude.{◌≡◌, ◌<◌, ◌-◌, IfOk, length};
 ghost use Rattle.aeth_group.specs.Members.{groups_of};
+ghost use Rattle.aeth_machine.specs.RunInputs.{inputs_of};
 ghost use Rattle.aeth_report.specs.RunLog.{log_of};
 ghost use Rattle.aeth_accepted.specs.Inputs.{AreAccepted, Inputs, inputs_with, run_of};
 ghost use Rattle.aeth_running.specs.Lossless.{LosesNothing};
 ghost use Rattle.aeth_running.specs.Network.{first_network, played, stepped};
 ghost use Rattle.aeth_running.specs.Logged.{logged};
 ghost use Rattle.aeth_network.specs.Runs.{AreWiresOf, IsNetworkOf};
+ghost use Rattle.aeth_network.specs.Unlogged.{logged_with};
 ghost use Rattle.aeth_table_network.specs.Tables.{tables_of};
 
 use crate::laws;
@@ -18,8 +20,9 @@ use aeth_base::NoMemory;
 use aeth_chip::Chip;
 use aeth_clocked::{Order, Wires};
 use aeth_group::Groups;
-use aeth_network::RoutedNetwork;
-use aeth_plan::Plan;
+use aeth_machine::Traces;
+use aeth_network::{RoutedNetwork, UnloggedNetwork};
+use aeth_plan::{Design, Plan, Planned};
 use aeth_report::SimLog;
 use aeth_scheduling::schedule_of;
 use aeth_trace::{Receivers, Switches, Words};
@@ -81,6 +84,45 @@ impl TableNetwork {
         Ok(TableNetwork { routed })
     }
 
+    /// The same network of a design, a plan for it and traces. It is handed the traces, and lets the rows of
+    /// receivers go before its log is made.
+    pub fn of_traces(
+        alloc: Global,
+        design: &Design,
+        planned: &Planned,
+        traces: Traces,
+        cycles: u32,
+    ) -> Result<TableNetwork, NoMemory>
+        requires groups { planned.now.groups ≡ groups_of design.now.app }
+        requires accepted { AreAccepted (inputs_of design.now planned.now.plan traces cycles) }
+        ensures first { IfOk result (λ network. network ≡ first_network
+            (inputs_of design.now planned.now.plan traces cycles) (tables_of (inputs_of design.now planned.now.plan traces cycles))) }
+        ensures run { IfOk result
+            (IsNetworkOf (inputs_of design.now planned.now.plan traces cycles)) }
+    {
+        let Traces {
+            words,
+            receivers,
+            switches,
+        } = traces;
+        let inputs = RunInputs::of(
+            &design.chip,
+            &design.app,
+            &planned.groups,
+            &planned.plan,
+            BorrowedTraces {
+                words: &words,
+                receivers: &receivers,
+                switches: &switches,
+            },
+            cycles,
+        );
+        let unlogged = unlogged(alloc, &inputs)?;
+        drop(receivers);
+        let routed = unlogged.with_log(alloc, &design.chip, &design.app, &words, cycles)?;
+        Ok(TableNetwork { routed })
+    }
+
     /// The number of components.
     pub fn parts(&self) -> u32
         ensures count { result ≡ length self.now.components.parts }
@@ -138,6 +180,20 @@ impl TableNetwork {
     {
         self.routed.log()
     }
+}
+
+// The network of accepted inputs before the first of their cycles, but for its log.
+fn unlogged(alloc: Global, inputs: &RunInputs) -> Result<UnloggedNetwork, NoMemory>
+    ensures first { IfOk result (λ network. logged_with inputs.now network
+        ≡ first_network inputs.now (tables_of inputs.now)) }
+    ensures run { IfOk result (λ network. IsNetworkOf inputs.now
+        (logged_with inputs.now network)) }
+{
+    inputs.are_accepted();
+    laws::tables_route();
+    let schedule = schedule_of(alloc, inputs)?;
+    let tables = tables_of(alloc, inputs, &schedule)?;
+    UnloggedNetwork::with_tables(alloc, inputs, schedule, tables)
 }
 
 /// Plays all cycles of the run that are left. Every order of the components gives the same.

@@ -1,4 +1,4 @@
-use Rattle.std.proofs.Common.{◌∙◌, ◌+◌, ℕ, List, ap, arith, map, subst, sym, slice_range}
+use Rattle.std.proofs.Common.{◌≤◌, ◌∙◌, ◌+◌, ℕ, List, ap, arith, map, subst, sym, slice_range}
 use Rattle.aeth_schedule.specs.declared.session_start.SessionStart.{SessionStart}
 use Rattle.aeth_schedule.specs.declared.session_start.SessionStartByLine.{SessionStartByLine}
 use Rattle.aeth_stimuli.specs.Stimuli.{Offer, Take}
@@ -83,10 +83,12 @@ returns-clause-behind c =
       window_is = subst (AreOver c.place_behind-window.result next) c.windows.ensures
           c.place_behind-window.ensures;
       entering_is = c.behind_entering-entering.ensures.place;
-      quiet = record {
-        events = c.quiet_until.ensures.events;
-        session_starts = c.quiet_until.ensures.session_starts;
-        takes = c.quiet_until.ensures.takes;
-        enterings = c.quiet_until.ensures.enterings;
+      quiet = subst (λ (cycles : List ℕ). passed (λ cycle. cycle) c.quiet_until.result cycles
+          ≤ c.behind-event.result) c.cycles-2.ensures c.quiet_until.ensures.quiet;
+      calm = record {
+        session_starts = c.calm_until-calm_until.ensures.session_starts;
+        takes = c.calm_until-calm_until.ensures.takes;
+        enterings = c.calm_until-calm_until.ensures.enterings;
       };
+      sooner = c.quiet_until.ensures.most;
     }

@@ -1,5 +1,6 @@
 use Rattle.std.proofs.Common.{◌≡◌, ◌<◌, ◌+◌, ◌∙◌, List, ap, arith, length, refl, subst, sym, All}
 use Rattle.std.proofs.Common.{vec_capacity}
+use Rattle.aeth_components.specs.{Components.ComponentsCycle, declared.event.Event.Event}
 use Rattle.aeth_running.specs.Network.{NetworkState, stepped}
 use Rattle.aeth_stimuli.specs.Stimuli.{Offer}
 use Rattle.aeth_network.specs.{Behind.passed, Brought.BringsWords, Fits.AreFit}
@@ -7,7 +8,7 @@ use Rattle.aeth_network.specs.{declared.state.State.State}
 use Rattle.aeth_network.proofs.Cycling.{offers-now}
 use Rattle.aeth_network.proofs.QuietPlaces.{cursors-words}
 use Rattle.aeth_network.proofs.SeenNetworks.{Becomes, becomes-stepped, in-order, seen, seen_next}
-use Rattle.aeth_network.proofs.WordCycles.{fit-words, words-are, words-stepped}
+use Rattle.aeth_network.proofs.WordCycles.{calm-stepped, fit-words, words-are}
 use Rattle.aeth_network.proofs.network.RoutedNetwork.cycle_with_words.Given as given
 use Rattle.aeth_network.proofs.network.RoutedNetwork.cycle_with_words.Goals as goal
 
@@ -17,7 +18,7 @@ offer-requires-clause-time g c =
     let inside = c.self.inside in
     subst (All (λ (one : Offer). one.cycle ≡ inside.time))
     (sym (words-are inside c.self.invariant.0
-    (subst BringsWords (sym c.self.view_is) c.requires.words) inside.cursors.offer
+    (subst BringsWords (sym c.self.view_is) c.requires.words).calm inside.cursors.offer
     c.behind-last.result c.deref.result.now c.deref-3.result.now c.deref.ensures.value
     c.deref-3.ensures.value c.behind-last.ensures)) (offers-now inside c.self.invariant.0)
 
@@ -30,9 +31,9 @@ offer-requires-clause-fit g c =
     (subst (λ (offers : List Offer). AreFit (length inside.state.components.words)
     (length inside.state.components.parts) inside.state.untils.items offers
     inside.state.components.channel_states)
-    (sym (words-are inside c.self.invariant.0 brings inside.cursors.offer c.behind-last.result
+    (sym (words-are inside c.self.invariant.0 brings.calm inside.cursors.offer c.behind-last.result
     c.deref.result.now c.deref-3.result.now c.deref.ensures.value c.deref-3.ensures.value
-    c.behind-last.ensures)) (fit-words inside c.self.invariant.0 brings))
+    c.behind-last.ensures)) (fit-words inside c.self.invariant.0 brings.calm))
 
 -- The network is behind one more cycle, and what holds of networks holds of it.
 step : (g : given.Over) (c : goal.After-self-2-1 g)
@@ -44,7 +45,7 @@ step : (g : given.Over) (c : goal.After-self-2-1 g)
 step g c =
     let inside = c.self.inside in
     let brings = subst BringsWords (sym c.self.view_is) c.requires.words in
-    let offered = words-are inside c.self.invariant.0 brings inside.cursors.offer
+    let offered = words-are inside c.self.invariant.0 brings.calm inside.cursors.offer
     c.behind-last.result c.deref.result.now c.deref-3.result.now c.deref.ensures.value
     c.deref-3.ensures.value c.behind-last.ensures in
     let next : State = record inside.state {
@@ -54,9 +55,11 @@ step g c =
     becomes-stepped (vec_capacity inside.state.replaced) _ _ _ c.self.invariant.0 (omega arith)
     c.self.invariant.2
     (subst (λ (all : NetworkState). all.time < all.log.cycles) (sym c.self.view_is) c.requires.time)
-    (words-stepped inside c.self.invariant.0 brings c.offer.new.components c.step_counted.new.self next
-    (rw (c.offer.ensures.components, c.deref-2.ensures.value, offered) refl)
-    c.step_counted.ensures.cycle refl refl refl
+    (calm-stepped inside c.self.invariant.0 brings.calm c.offer.new.components c.step_counted.new.self
+    next (rw (c.offer.ensures.components, c.deref-2.ensures.value, offered) refl)
+    (subst (λ (events : List Event).
+    ComponentsCycle events inside.time c.offer.new.components c.step_counted.new.self)
+    (sym brings.eventless) c.step_counted.ensures.cycle) refl refl refl
     (rw (c.offer.ensures.outside, c.deref-2.ensures.value, offered) refl))
 
 pub invariant_of-self : goal.invariant_of-self

@@ -28,6 +28,18 @@ next-next-requires-clause-from c =
     subst (λ n. AreCursors inside.cursors n (stimuli_with inside.given) (routing_with inside.given))
     time c.self.invariant.1
 
+-- An event is done in the cycle that comes.
+pub returns-then-has_event : goal.returns-then-has_event
+returns-then-has_event c =
+    let has = c.self.invariant.2 in
+    let all = seen c.self.inside in
+    let time : c.time-time.result ≡ all.time =
+    c.time-time.ensures ∙ sym (ap (λ (one : NetworkState). one.time) c.self.view_is) in
+    rw c.time-time.ensures (subst (λ (net : NetworkState). IsNextBusy net net.time) c.self.view_is
+    (now-busy has.inputs all
+    (c.quiet_cycles_are_still.ensures has.inputs has.of.accepted all.routing has.of.routed) has.of
+    (λ still. (rw time at c.has_event.ensures) c.if-has_event.true still.eventless)))
+
 -- A wire has a flit.
 pub returns-else-are_wires_empty : goal.returns-else-are_wires_empty
 returns-else-are_wires_empty c =
@@ -36,7 +48,7 @@ returns-else-are_wires_empty c =
     rw c.time-time.ensures (subst (λ (net : NetworkState). IsNextBusy net net.time) c.self.view_is
     (now-busy has.inputs all
     (c.quiet_cycles_are_still.ensures has.inputs has.of.accepted all.routing has.of.routed) has.of
-    (λ empty. let yes = c.are_wires_empty.ensures.1 empty in
+    (λ still. let yes = c.are_wires_empty.ensures.1 still.empty in
     absurd (cc (sym yes ∙ c.if-are_wires_empty.false)))))
 
 -- Or the first of what is given, of what components send, and of what receivers take.

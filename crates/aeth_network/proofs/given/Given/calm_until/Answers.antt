@@ -1,14 +1,14 @@
-use Rattle.std.proofs.Common.{◌∙◌, ℕ, ap, arith, map, refl}
+use Rattle.std.proofs.Common.{◌∙◌, ap, arith, map, refl}
 use Rattle.aeth_schedule.specs.declared.session_start.SessionStart.{SessionStart}
 use Rattle.aeth_schedule.specs.declared.session_start.SessionStartByLine.{SessionStartByLine}
 use Rattle.aeth_stimuli.specs.Stimuli.{Take}
 use Rattle.aeth_network.proofs.MappedRows.{passed-keyed, rises-keyed}
 use Rattle.aeth_network.proofs.QuietPlaces.{quiet-sooner}
-use Rattle.aeth_network.proofs.given.Given.quiet_until.Goals as goal
+use Rattle.aeth_network.proofs.given.Given.calm_until.Goals as goal
 
 -- Sessions go in the cycles of their list.
-pub quiet_until-until-requires-2 : goal.quiet_until-until-requires-2
-quiet_until-until-requires-2 c =
+pub quiet_until-until-requires : goal.quiet_until-until-requires
+quiet_until-until-requires c =
     rises-keyed (λ (one : SessionStartByLine). one.go)
     (λ (one : SessionStart). one.channel_state.go) c.list.result.now
     c.args.self.now.schedule.session_starts
@@ -16,23 +16,15 @@ quiet_until-until-requires-2 c =
     c.session_starts.ensures)
     c.requires.session_starts
 
--- The cycle is not behind that of any of the four.
-pub returns-clause-events : goal.returns-clause-events
-returns-clause-events c =
-    let session_starts = c.quiet_until-until-2.ensures.most in
-    let takes = c.quiet_until-until-3.ensures.most in
-    let enters = c.unentered_until.ensures.most in
-    quiet-sooner (λ (cycle : ℕ). cycle) _ _ _ c.cycles.result.now _ c.cycles.ensures (omega arith)
-    c.quiet_until-until.ensures.quiet
-
+-- The cycle is not behind that of any of the three.
 pub returns-clause-session_starts : goal.returns-clause-session_starts
 returns-clause-session_starts c =
-    let takes = c.quiet_until-until-3.ensures.most in
+    let takes = c.quiet_until-until-2.ensures.most in
     let enters = c.unentered_until.ensures.most in
     let go = λ (one : SessionStartByLine). one.go in
-    let early = quiet-sooner go c.quiet_until-until-2.result c.unentered_until.result
+    let early = quiet-sooner go c.quiet_until-until.result c.unentered_until.result
     c.args.session_start c.list.result.now c.list.result.now refl (omega arith)
-    c.quiet_until-until-2.ensures.quiet in
+    c.quiet_until-until.ensures.quiet in
     let same = passed-keyed go (λ (one : SessionStart). one.channel_state.go)
     c.unentered_until.result
     c.list.result.now c.args.self.now.schedule.session_starts (c.list.ensures
@@ -43,4 +35,4 @@ pub returns-clause-takes : goal.returns-clause-takes
 returns-clause-takes c =
     let enters = c.unentered_until.ensures.most in
     quiet-sooner (λ (one : Take). one.cycle) _ _ _ c.deref.result.now _ c.deref.ensures.value
-    (omega arith) c.quiet_until-until-3.ensures.quiet
+    (omega arith) c.quiet_until-until-2.ensures.quiet
