@@ -98,7 +98,7 @@ run short slots_64 70 310000 slots 64 32 2 "$slots_64"
 run short slots_128 70 330000 slots 128 64 2 "$slots_128"
 run short server_64 70 310000 server 64 64 3 "$slots_64"
 run short server_128 70 320000 server 128 128 3 "$slots_128"
-run short chip 112 3018141 chip chip
+run short chip 105 3018141 chip chip
 run short app 105 34657781 app chip app_hops
 run short allocate_hops 105 77274183 allocate chip app_hops
 run short allocate_hops_128 105 91297219 allocate chip128 app_hops
