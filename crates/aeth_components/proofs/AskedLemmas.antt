@@ -4,7 +4,7 @@ use Rattle.std.proofs.Math.Nat.{mod-lt}
 use Rattle.aeth_router.specs.declared.part.Part.{Part}
 use Rattle.aeth_components.specs.Injecting.{AreInjecting, entries_of}
 use Rattle.aeth_components.specs.declared.injecting.Injecting.{Injecting}
-use Rattle.aeth_components.proofs.InjectingLemmas.{length-table}
+use Rattle.aeth_components.proofs.MarkedSenders.{length-table}
 
 module _ (cycle slot : ℕ) (parts : List Part) (injecting : Injecting)
     (are : AreInjecting parts injecting) (is : slot ≡ cycle % length injecting.slots)

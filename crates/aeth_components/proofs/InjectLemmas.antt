@@ -17,7 +17,7 @@ use Rattle.aeth_components.specs.{Enqueuing.HasWaitingPlaces, Enqueuing.MarksAct
 use Rattle.aeth_components.specs.{Seen.interfaces_driven, Sending.Injects, Sending.IsSending}
 use Rattle.aeth_components.specs.{FlitsOnWires.AreSendersMarked, FlitsOnWires.sends_own}
 use Rattle.aeth_components.specs.{declared.enqueuing.Enqueuing.Enqueuing}
-use Rattle.aeth_components.proofs.InjectingLemmas.{AreInjecting-sends}
+use Rattle.aeth_components.proofs.MarkedSenders.{AreInjecting-sends}
 use Rattle.aeth_components.proofs.WiringLemmas.{AreDisjoint-parts}
 use Rattle.aeth_components.proofs.OwnLemmas.{after-sends, flit_on-other, flit_on-own}
 use Rattle.aeth_components.proofs.OwnLemmas.{option_map-still, output-below, own_driven, still-mute}

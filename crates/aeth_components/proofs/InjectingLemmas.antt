@@ -1,9 +1,8 @@
 -- Which interfaces may send in a slot: the entries of tables, what events note of them, and that those that send are marked.
 use Rattle.std.proofs.Common.{ℕ, zero, suc, ◌≡◌, ◌≢◌, ◌<◌, ◌≤◌, ◌+◌, ◌%◌, ◌∙◌, refl, sym, ap, arith}
 use Rattle.std.proofs.Common.{inl, inr, List, [], ◌∷◌, length, map, Option, Some, None, slice_get}
-use Rattle.std.proofs.Common.{true, false, is_some, length-set, subst, ◌⊎◌}
-use Rattle.std.proofs.lemmas.Bool.{cases_Bool, cases_eq, cases_lt}
-use Rattle.std.proofs.lemmas.{List.get_or_default, List.get_or_past}
+use Rattle.std.proofs.Common.{true, is_some, length-set, subst, ◌⊎◌}
+use Rattle.std.proofs.lemmas.{Bool.cases_eq, Bool.cases_lt, List.get_or_default, List.get_or_past}
 use Rattle.std.proofs.lemmas.{List.length-map, Option.get_or_from_slice_get, Option.same_Some}
 use Rattle.std.specs.List.{slice_index_or}
 use Rattle.aeth_base.specs.{Limits.max_slots, Marks.bit_of, Marks.room_of}
@@ -24,12 +23,11 @@ use Rattle.aeth_components.specs.Changes.{event_done, happened, on_interface, wi
 use Rattle.aeth_components.specs.Events.{IsDoable, event_part}
 use Rattle.aeth_components.specs.Wirings.{Wiring}
 use Rattle.aeth_components.specs.Injecting.{AreEntered, AreInjecting, HasPlaces, IsEntered}
-use Rattle.aeth_components.specs.Injecting.{MarksQueueActive, NotesEvent, entries_of, entry_at}
-use Rattle.aeth_components.specs.Injecting.{may_send, place_of_entry, table_at}
+use Rattle.aeth_components.specs.Injecting.{NotesEvent, entries_of, entry_at, may_send, table_at}
 use Rattle.aeth_components.specs.SlotMarks.{MarksMore, marks_at}
 use Rattle.aeth_components.specs.Switching.{SlotWrite, Touches, Writes, entry_of, event_end}
 use Rattle.aeth_components.specs.Switching.{slot_write, slot_written, write_end}
-use Rattle.aeth_components.specs.FlitsOnWires.{AreSendersMarked, sends_own}
+use Rattle.aeth_components.specs.FlitsOnWires.{sends_own}
 use Rattle.aeth_components.specs.View.{queue_in}
 use Rattle.aeth_components.proofs.PartLemmas.{length-with_part}
 use Rattle.aeth_components.proofs.SlotLemmas.{entry_of-happened_other, entry_of-happened_own}
@@ -170,7 +168,8 @@ queue-sends : (entry : Option ℕ) (queues : List QueueState) → is_some (emitt
 queue-sends None queues sends = absurd (cc sends)
 queue-sends (Some queue) queues sends = (queue, refl, sends)
 
-entry-sends : (cycle : ℕ) (part : Part) → sends_own cycle part ≡ true → (queue : ℕ)
+-- What a component sends is of the queue that its table has in that slot.
+pub entry-sends : (cycle : ℕ) (part : Part) → sends_own cycle part ≡ true → (queue : ℕ)
     × (slice_index_or (entries_of part) (cycle % length (entries_of part)) None ≡ Some queue)
     × (is_some (emitted (queue_in queue (Some part))) ≡ true)
 entry-sends cycle (Interface ni) sends =
@@ -390,84 +389,3 @@ NotesEvent-cleared part event write old new writes none most slots room cleared 
         ]
       ]) entered;
 }
-
--- So is one that changes a queue, which is marked active where it has something to send.
-pub NotesEvent-told : (part : Part) (event : Event) (end : ChannelEnd) (old new : Injecting)
-    → event_end event ≡ Some end → slot_write event ≡ None
-    → (is_some (emitted (queue_in end.queue (Some part))) ≡ true
-    → MarksQueueActive end.ni.0 end.queue old new)
-    → (is_some (emitted (queue_in end.queue (Some part))) ≡ false → new ≡ old)
-    → NotesEvent part event old new
-NotesEvent-told part event end old new is none marks rests =
-    let own = ends-part event end is in
-    elim (cases_Bool (is_some (emitted (queue_in end.queue (Some part))))) [
-      | inl has ↦
-          let active = marks has in
-          record {
-            more = subst (λ number. MarksMore number old.slots new.slots) own active.more;
-            room = ap room_of active.entries;
-            written = λ write queue found entry below. absurd (cc (sym none ∙ found));
-            marked = λ write queue found entry below some. absurd (cc (sym none ∙ found));
-            marked_active = λ other slot found below some entered.
-                let same = same_Some end other (sym is ∙ found) in
-                subst (λ (one : ChannelEnd). bit_of (marks_at new.slots slot) one.ni.0 ≡ 1) same
-                (active.own slot below (subst (λ (one : ChannelEnd).
-                IsEntered old one.ni.0 one.queue slot) (sym same) entered));
-            kept = λ number slot queue below apart entered.
-                ap (λ (entries : List ℕ). bit_of entries (place_of_entry number queue slot)) active.entries
-                ∙ entered;
-          }
-      | inr mute ↦
-          rw (rests mute) (record {
-            more = MarksMore-none (event_part event) old.slots;
-            room = refl;
-            written = λ write queue found entry below. absurd (cc (sym none ∙ found));
-            marked = λ write queue found entry below some. absurd (cc (sym none ∙ found));
-            marked_active = λ other slot found below some entered.
-                let same = same_Some end other (sym is ∙ found) in
-                absurd (cc (sym mute ∙ ap (λ (one : ChannelEnd).
-                is_some (emitted (queue_in one.queue (Some part)))) same ∙ some));
-            kept = λ number slot queue below apart entered. entered;
-          })
-    ]
-
--- The table of a component has as many slots as there are, if it has any.
-pub length-table : (parts : List Part) (injecting : Injecting) → AreInjecting parts injecting
-    → (number : ℕ) (part : Part) → slice_get parts number ≡ Some part → 0 < length (entries_of part)
-    → length (entries_of part) ≡ length injecting.slots
-length-table parts injecting are number part at some =
-    let size = ap length (table_at-parts parts number part at) in
-    sym size ∙ are.tables.size number (omega (arith, some, size))
-
--- So has that of one that sends.
-pub length-sends : (cycle : ℕ) (parts : List Part) (injecting : Injecting)
-    → AreInjecting parts injecting → (number : ℕ) (part : Part)
-    → slice_get parts number ≡ Some part → sends_own cycle part ≡ true
-    → length (entries_of part) ≡ length injecting.slots
-length-sends cycle parts injecting are number part at sends =
-    let entry = entry-sends cycle part sends in
-    let within = entry-within (entries_of part) (cycle % length (entries_of part)) entry.0 entry.1 in
-    length-table parts injecting are number part at (omega (arith, within))
-
--- And it is marked.
-pub AreInjecting-sends : (cycle : ℕ) (parts : List Part) (injecting : Injecting)
-    → AreInjecting parts injecting
-    → AreSendersMarked cycle parts (marks_at injecting.slots (cycle % length injecting.slots))
-AreInjecting-sends cycle parts injecting are number part at sends =
-    let entry = entry-sends cycle part sends in
-    let same = length-sends cycle parts injecting are number part at sends in
-    are.marked number (cycle % length injecting.slots) entry.0
-    (sym (entry_at-parts parts number (cycle % length injecting.slots))
-    ∙ ap (λ (list : List (Option ℕ)). slice_index_or list (cycle % length injecting.slots) None)
-    (table_at-parts parts number part at)
-    ∙ ap (λ n. slice_index_or (entries_of part) (cycle % n) None) (sym same) ∙ entry.1)
-    (ap (λ (found : Option Part). is_some (emitted (queue_in entry.0 found))) at ∙ entry.2)
-
--- A marked number is that of a component.
-pub AreInjecting-below : (parts : List Part) (injecting : Injecting) → AreInjecting parts injecting
-    → (number slot : ℕ) → bit_of (marks_at injecting.slots slot) number ≡ 1
-    → number < length parts
-AreInjecting-below parts injecting are number slot bit =
-    let below = are.tables.below number slot bit in
-    let count = length-map parts entries_of in
-    omega (arith, below, count)

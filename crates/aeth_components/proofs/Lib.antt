@@ -29,6 +29,7 @@ pub mod MadeLemmas
 pub mod MadeParts
 mod MapLemmas
 mod MarkLemmas
+mod MarkedSenders
 mod NextLemmas
 pub mod NoteLemmas
 mod OwnLemmas

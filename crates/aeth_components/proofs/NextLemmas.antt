@@ -9,7 +9,7 @@ use Rattle.aeth_router.specs.declared.part.Part.TheVariants.{Interface, Router, 
 use Rattle.aeth_components.specs.{First.HasSender, Injecting.AreInjecting, Injecting.entries_of}
 use Rattle.aeth_components.specs.{declared.injecting.Injecting.Injecting, FlitsOnWires.sends_own}
 use Rattle.aeth_components.specs.{SlotMarks.marks_at}
-use Rattle.aeth_components.proofs.InjectingLemmas.{AreInjecting-sends, length-sends}
+use Rattle.aeth_components.proofs.MarkedSenders.{AreInjecting-sends, length-sends}
 use Rattle.aeth_base.specs.Marks.{bit_of}
 
 -- It sends in some cycle that is no more than a table behind another.

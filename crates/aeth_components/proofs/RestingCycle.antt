@@ -7,21 +7,22 @@ use Rattle.aeth_clocked.specs.{Wires.flit_on, declared.flit.Flit.Flit}
 use Rattle.aeth_clocked.proofs.ClearLemmas.{all-empty}
 use Rattle.aeth_router.specs.declared.part.Part.{Part}
 use Rattle.aeth_router.specs.declared.part.Part.TheVariants.{Interface, Router, Stage, TableRouter}
-use Rattle.aeth_router.proofs.PassingLemmas.{passed-empty}
 use Rattle.aeth_router.specs.Onward.{CameFrom, Nothing, arrival_at, carried}
 use Rattle.aeth_router.specs.Passing.{passed}
-use Rattle.aeth_components.specs.Changes.{on_interface}
-use Rattle.aeth_components.specs.declared.channel_state.ChannelState.{ChannelState}
+use Rattle.aeth_router.proofs.PassingLemmas.{passed-empty}
+use Rattle.aeth_components.specs.{Changes.on_interface}
+use Rattle.aeth_components.specs.{declared.channel_state.ChannelState.ChannelState}
 use Rattle.aeth_components.specs.{declared.ends.Ends.Ends, declared.enqueuing.Enqueuing.Enqueuing}
 use Rattle.aeth_components.specs.{Busy.IsChannelIdle, Channels.AreStill, Ends.AreEnds}
-use Rattle.aeth_components.specs.Components.{ComponentsCycle, ComponentsState, Runs, wires_driven}
-use Rattle.aeth_components.specs.Counting.{counted, flits_counted, noted, with_flit}
+use Rattle.aeth_components.specs.{Components.ComponentsCycle, Components.ComponentsState}
+use Rattle.aeth_components.specs.{Components.Runs, Components.wires_driven, Counting.counted}
+use Rattle.aeth_components.specs.{Counting.flits_counted, Counting.noted, Counting.with_flit}
 use Rattle.aeth_components.specs.{Enqueuing.HasWaitingPlaces, FlitsOnWires.sends_own}
-use Rattle.aeth_components.specs.Passing.{part_at, passed_from}
-use Rattle.aeth_components.specs.Phases.{Moment, in_turn, pulled, refilled}
-use Rattle.aeth_components.specs.Seen.{all_seen, flits_landed, interfaces_driven, interfaces_latched}
-use Rattle.aeth_components.specs.Seen.{landed, taken_of}
-use Rattle.aeth_components.specs.Wirings.{IsWired, wiring_of}
+use Rattle.aeth_components.specs.{Passing.part_at, Passing.passed_from, Phases.Moment}
+use Rattle.aeth_components.specs.{Phases.in_turn, Phases.pulled, Phases.refilled, Seen.all_seen}
+use Rattle.aeth_components.specs.{Seen.flits_landed, Seen.interfaces_driven}
+use Rattle.aeth_components.specs.{Seen.interfaces_latched, Seen.landed, Seen.taken_of}
+use Rattle.aeth_components.specs.{Wirings.IsWired, Wirings.wiring_of}
 use Rattle.aeth_components.proofs.CountedCycle.{Cycle-counted}
 use Rattle.aeth_components.proofs.CountingLemmas.{brings-none, counted-none, noted-still}
 use Rattle.aeth_components.proofs.DriveLemmas.{wires-driven}

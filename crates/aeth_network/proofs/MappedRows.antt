@@ -1,6 +1,6 @@
 -- Rows that are made of others, and their places.
-use Rattle.std.proofs.Common.{◌≡◌, ◌+◌, ◌-◌, ◌==◌, ◌∙◌, ℕ, List, [], ◌∷◌, ap, arith, drop, filter}
-use Rattle.std.proofs.Common.{length, map, nat_lt, subst, sym, take, slice_range}
+use Rattle.std.proofs.Common.{◌≡◌, ◌+◌, ◌-◌, ◌==◌, ◌∙◌, ℕ, List, [], ◌∷◌, ap, arith, filter, length}
+use Rattle.std.proofs.Common.{map, nat_lt, subst, sym, slice_range}
 use Rattle.std.proofs.lemmas.List.{get_or-map, length-map}
 use Rattle.std.proofs.lemmas.Slice.Zip.{firsts-zip, seconds-zip}
 use Rattle.std.specs.List.{zip, Sorted.IsNonDecreasing, Sorted.IsNonDecreasingBy}

@@ -7,7 +7,6 @@
 use Rattle.std.proofs.Common.{ℕ, List, [], map}
 use Rattle.std.specs.List.{slice_index_or}
 use Rattle.aeth_base.specs.declared.ids.Side.TheVariants.{Fwd}
-use Rattle.aeth_components.specs.declared.channel_state.ChannelEnd.{ChannelEnd}
 use Rattle.aeth_schedule.specs.Lines.{end_of, lines_at}
 use Rattle.aeth_schedule.specs.declared.session_start.SessionStart.{SessionStart}
 use Rattle.aeth_schedule.specs.declared.session_start.SessionStartByLine.{SessionStartByLine}

@@ -1,6 +1,6 @@
 use Rattle.std.proofs.Common.{◌∙◌}
 use Rattle.aeth_document.proofs.WalkLemmas.{filter_map-name_of}
-use Rattle.aeth_chip.proofs.{RangeLemmas.in_range, making.names_in.Goals.In_ok-nis}
+use Rattle.aeth_chip.proofs.RangeLemmas.{in_range}
 use Rattle.aeth_chip.proofs.making.names_in.Goals as goal
 
 -- The routers' names are their texts.

@@ -1,5 +1,5 @@
-use Rattle.std.proofs.Common.{◌≡◌, ◌≤◌, arith, length, refl, subst, sym, vec_capacity}
-use Rattle.aeth_running.specs.Network.{NetworkState, first_network}
+use Rattle.std.proofs.Common.{◌≡◌, ◌≤◌, length, refl, subst, sym, vec_capacity}
+use Rattle.aeth_running.specs.Network.{NetworkState}
 use Rattle.aeth_schedule.specs.SessionStarts.{session_starts_of}
 use Rattle.aeth_network.specs.{Cursors.routing_with, Cursors.stimuli_with, Networks.IsNetwork}
 use Rattle.aeth_network.specs.{Networks.network_of, Runs.HasInputs}

@@ -1,4 +1,4 @@
-use Rattle.std.proofs.Common.{◌≤◌, ap, arith, length, subst, sym}
+use Rattle.std.proofs.Common.{◌≤◌, ap, arith, length}
 use Rattle.aeth_stimuli.specs.Stimuli.{Stimuli}
 use Rattle.aeth_network.specs.Cursors.{routing_with, stimuli_with}
 use Rattle.aeth_network.proofs.FirstLogs.{first-logged}

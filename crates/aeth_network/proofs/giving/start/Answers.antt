@@ -1,5 +1,4 @@
-use Rattle.std.proofs.Common.{◌≡◌, ◌∙◌, ◌<◌, List, ap, arith, fold, get_or, length, subst, sym}
-use Rattle.std.proofs.Common.{take}
+use Rattle.std.proofs.Common.{◌≡◌, ◌∙◌, ◌<◌, List, ap, arith, fold, length, subst, sym, take}
 use Rattle.std.proofs.lemmas.{List.Sums.fold_more, Option.get_or_from_slice_get}
 use Rattle.aeth_trace.specs.Channels.{channel_number}
 use Rattle.aeth_components.specs.{Components.ComponentsState, ChannelStates.IsChannelState}

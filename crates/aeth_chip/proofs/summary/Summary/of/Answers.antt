@@ -1,5 +1,5 @@
 use Rattle.std.proofs.Common.{◌∙◌, Some, None, arith, length}
-use Rattle.aeth_base.{proofs.ExtremeLemmas.ord_max-nat}
+use Rattle.aeth_base.proofs.ExtremeLemmas.{ord_max-nat}
 use Rattle.aeth_chip.specs.Limits.{max_places}
 use Rattle.aeth_chip.proofs.OriginLemmas.{links_placed, origin_below}
 use Rattle.aeth_chip.proofs.SummaryLemmas.{level-least, summary-few, summary-row, summary-some}

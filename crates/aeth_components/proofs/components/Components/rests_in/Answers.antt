@@ -1,11 +1,11 @@
-use Rattle.std.proofs.Common.{◌≡◌, ◌∙◌, arith, inl, inr, length, slice_get, Some, sym}
-use Rattle.std.proofs.Common.{eqb-true, false, ℕ}
+use Rattle.std.proofs.Common.{◌≡◌, ◌∙◌, arith, inl, inr, slice_get, Some, sym, eqb-true, false, ℕ}
 use Rattle.std.proofs.lemmas.{Bool.cases_Bool, Option.slice_get_within}
 use Rattle.aeth_router.specs.declared.part.Part.{Part}
 use Rattle.aeth_components.proofs.{FlitLemmas.flits_on-none, RestingCycle.Cycle-resting}
-use Rattle.aeth_components.proofs.InjectingLemmas.{AreInjecting-sends}
+use Rattle.aeth_components.proofs.{MarkedSenders.AreInjecting-sends}
+use Rattle.aeth_components.proofs.{components.Components.rests_in.Goals.else-self-eq0}
+use Rattle.aeth_components.proofs.{components.Components.rests_in.Goals.then-self-eq0}
 use Rattle.aeth_components.specs.{Components.components_of, FlitsOnWires.sends_own}
-use Rattle.aeth_components.proofs.components.Components.rests_in.Goals.{else-self-eq0, then-self-eq0}
 use Rattle.aeth_components.proofs.components.Components.rests_in.Goals as goal
 
 -- No wire has a flit, none that sends is marked, and all channels are idle.

@@ -1,5 +1,4 @@
-use Rattle.std.proofs.Common.{◌≡◌, ◌<◌, ◌∙◌, List, ap, arith, length, refl, subst, sym}
-use Rattle.std.proofs.Common.{vec_capacity}
+use Rattle.std.proofs.Common.{◌≡◌, ◌<◌, ◌∙◌, List, ap, arith, refl, subst, sym, vec_capacity}
 use Rattle.aeth_components.specs.{Components.ComponentsCycle, declared.event.Event.Event}
 use Rattle.aeth_running.specs.Network.{NetworkState, stepped}
 use Rattle.aeth_network.specs.{Brought.IsCalm, declared.state.State.State}
