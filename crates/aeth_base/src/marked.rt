@@ -44,6 +44,7 @@ impl<'a> Marked<'a> {
     }
 
     // Takes the first number that is still to come.
+    #[inline(always)]
     fn take_first(&mut self) -> Option<usize>
         ensures { MatchOption result ((self.new ≡ self.old) × (self.old ≡ []))
             (λ number. self.old ≡ number ∷ self.new) }
@@ -69,6 +70,7 @@ impl<'a> Iterator for Marked<'a> {
 
     ghost remaining = { item_count (λ numbers. numbers) };
 
+    #[inline(always)]
     fn next(&mut self) -> Option<usize> {
         self.take_first()
     }

@@ -57,6 +57,7 @@ impl Marks {
     }
 
     /// Marks a number.
+    #[inline(always)]
     pub fn mark(&mut self, number: usize)
         requires { number < room_of self.old }
         ensures room { room_of self.new ≡ room_of self.old }
@@ -68,6 +69,7 @@ impl Marks {
     }
 
     /// Marks it no more.
+    #[inline(always)]
     pub fn unmark(&mut self, number: usize)
         requires { number < room_of self.old }
         ensures room { room_of self.new ≡ room_of self.old }
@@ -79,6 +81,7 @@ impl Marks {
     }
 
     /// Whether a number is marked.
+    #[inline(always)]
     pub fn has(&self, number: usize) -> bool
         requires { number < room_of self.now }
         ensures { IsTrue result ↔ (bit_of self.now number ≡ 1) }
@@ -87,6 +90,7 @@ impl Marks {
     }
 
     /// The first marked number from `from` on; `end` where none is marked below it.
+    #[inline(always)]
     pub fn next(&self, from: usize, end: usize) -> usize
         requires from { from ≤ end }
         requires end { end < room_of self.now }
@@ -117,6 +121,7 @@ impl Marks {
 }
 
 // Sets the bit of a number.
+#[inline(always)]
 fn mark(masks: &mut [u64], number: usize)
     requires { number < room_of masks.old }
     ensures size { length masks.new ≡ length masks.old }
@@ -129,6 +134,7 @@ fn mark(masks: &mut [u64], number: usize)
 }
 
 // Clears it.
+#[inline(always)]
 fn unmark(masks: &mut [u64], number: usize)
     requires { number < room_of masks.old }
     ensures size { length masks.new ≡ length masks.old }
@@ -141,6 +147,7 @@ fn unmark(masks: &mut [u64], number: usize)
 }
 
 // Whether it is 1.
+#[inline(always)]
 fn has(masks: &[u64], number: usize) -> bool
     requires { number < room_of masks.now }
     ensures { IsTrue result ↔ (bit_of masks.now number ≡ 1) }
@@ -149,6 +156,7 @@ fn has(masks: &[u64], number: usize) -> bool
 }
 
 // The first marked number from one on, or a number past `end`, or this.
+#[inline(always)]
 fn first_from(masks: &[u64], from: usize, end: usize) -> usize
     requires from { from ≤ end }
     requires end { end < room_of masks.now }

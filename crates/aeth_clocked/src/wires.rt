@@ -52,6 +52,7 @@ impl Wires {
 
     /// The flit on a link; `None` where the link is empty.
     #[tactic(auto, using(crate::proofs::MarkedWiresLemmas::as_many_wires))]
+    #[inline(always)]
     pub fn get(&self, link: LinkId) -> Option<Flit>
         requires { link.0 < length self.now }
         ensures { slice_get self.now link.0 ≡ Some result }
@@ -66,6 +67,7 @@ impl Wires {
 
     /// The flit on a link that has one.
     #[tactic(auto, using(crate::proofs::MarkedWiresLemmas::as_many_wires))]
+    #[inline(always)]
     pub fn flit(&self, link: LinkId) -> Flit
         requires { IsSome (flit_on self.now link.0) }
         ensures { flit_on self.now link.0 ≡ Some result }
@@ -75,6 +77,7 @@ impl Wires {
 
     /// Whether a link is empty.
     #[tactic(auto, using(crate::proofs::MarkedWiresLemmas::as_many_wires))]
+    #[inline(always)]
     pub fn is_empty(&self, link: LinkId) -> bool
         requires { link.0 < length self.now }
         ensures { IsTrue result ↔ (flit_on self.now link.0 ≡ None) }
@@ -84,6 +87,7 @@ impl Wires {
 
     /// Puts a flit on a link, or empties it.
     #[tactic(auto, using(crate::proofs::MarkedWiresLemmas::as_many_wires))]
+    #[inline(always)]
     pub fn put(&mut self, link: LinkId, flit: Option<Flit>)
         requires { link.0 < length self.old }
         ensures { self.new ≡ slice_set self.old link.0 flit }
@@ -111,6 +115,7 @@ impl Wires {
     }
 
     /// The links with a flit, upwards.
+    #[inline(always)]
     pub fn used(&self) -> Marked<'_>
         ensures { result ≡ used_from self.now 0 }
     {

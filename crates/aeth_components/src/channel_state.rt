@@ -44,6 +44,7 @@ pub struct ChannelState {
 
 impl ChannelState {
     // Whether words are enqueued and taken in a cycle.
+    #[inline(always)]
     pub(crate) fn is_open(&self, cycle: u32) -> bool
         ensures { result ≡ open_in self.now cycle }
     {

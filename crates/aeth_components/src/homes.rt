@@ -69,6 +69,7 @@ fn await_none(channel_states: &[ChannelState]) -> bool
 }
 
 // The place of a queue.
+#[inline(always)]
 pub(crate) fn place_of(interface: u32, queue: u8) -> usize
     ensures place { result ≡ home_at interface queue }
     ensures below { result < home_count }

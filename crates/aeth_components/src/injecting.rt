@@ -71,6 +71,7 @@ impl Injecting {
     }
 
     // The slot of a cycle.
+    #[inline(always)]
     pub(crate) fn slot(&self, cycle: u32) -> usize
         requires { 0 < length self.now.slots }
         ensures { result ≡ cycle % length self.now.slots }
@@ -122,6 +123,7 @@ impl Injecting {
     }
 
     // So it may where a queue has changed that has something to send then.
+    #[inline(always)]
     pub(crate) fn tell(&mut self, part: &Part, number: usize, queue: u8)
         requires { HasPlaces (number + 1) self.old }
         ensures marked_active { is_some (emitted (queue_in queue (Some part.now))) ≡ true
@@ -135,6 +137,7 @@ impl Injecting {
     }
 
     // So it may where a flit has come to one of its queues.
+    #[inline(always)]
     pub(crate) fn mark_told_active(&mut self, number: usize, told: Option<u8>)
         requires { HasPlaces (number + 1) self.old }
         ensures { MarksToldActive number told self.old self.new }
@@ -181,6 +184,7 @@ impl Injecting {
 }
 
 // The place of a queue's entry for a slot.
+#[inline(always)]
 fn place_of(number: usize, queue: u8, slot: usize) -> usize
     requires number { number < 2 ^ 32 }
     requires slot { slot < max_slots }

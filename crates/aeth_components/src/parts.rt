@@ -91,6 +91,7 @@ pub(crate) fn dequeue(part: &mut Part, queue: u8, pull: u32) -> u32
 }
 
 // How many words the last flit brought to a queue; none to a router's or a stage's.
+#[inline(always)]
 pub(crate) fn brought(part: &Part, queue: u8) -> u32
     ensures { result ≡ brought_by queue part.now }
 {
@@ -101,6 +102,7 @@ pub(crate) fn brought(part: &Part, queue: u8) -> u32
 }
 
 // Whether no flit brought words in the last cycle; to a router or a stage none ever does.
+#[inline(always)]
 pub(crate) fn is_silent(part: &Part) -> bool
     ensures { result ≡ true → (queue : ℕ) → brought_by queue part.now ≡ 0 }
 {
@@ -112,6 +114,7 @@ pub(crate) fn is_silent(part: &Part) -> bool
 
 // Whether a component sends something of its own in a slot, of as many as its table has: only an interface
 // does.
+#[inline(always)]
 pub(crate) fn sends_in(part: &Part, slot: usize) -> bool
     requires { 0 < length (entries_of part.now) → slot < length (entries_of part.now) }
     ensures { (cycle : ℕ)
@@ -129,6 +132,7 @@ pub(crate) fn sends_in(part: &Part, slot: usize) -> bool
 }
 
 // Whether a queue of a component has something to send; a router or a stage has none.
+#[inline(always)]
 pub(crate) fn may_send(part: &Part, queue: u8) -> bool
     ensures { result ≡ is_some (emitted (queue_in queue (Some part.now))) }
 {

@@ -50,6 +50,7 @@ impl SlotMarks {
     }
 
     // How many slots there are.
+    #[inline(always)]
     pub(crate) fn len(&self) -> usize
         ensures { result ≡ length self.now }
     {
@@ -57,6 +58,7 @@ impl SlotMarks {
     }
 
     // The marks of a slot.
+    #[inline(always)]
     pub(crate) fn at(&self, slot: usize) -> &Marks
         requires { slot < length self.now }
         ensures { result.now ≡ marks_at self.now slot }
@@ -65,6 +67,7 @@ impl SlotMarks {
     }
 
     // Marks a number in a slot.
+    #[inline(always)]
     pub(crate) fn mark(&mut self, slot: usize, number: usize)
         requires slot { slot < length self.old }
         requires number { number < 2 ^ 32 }
@@ -78,6 +81,7 @@ impl SlotMarks {
     }
 
     // Marks it there no more.
+    #[inline(always)]
     pub(crate) fn unmark(&mut self, slot: usize, number: usize)
         requires slot { slot < length self.old }
         requires room { All (λ marks. number < room_of marks) self.old }
@@ -90,6 +94,7 @@ impl SlotMarks {
     }
 
     // The first marked number of a slot from `from` on; `end` where none is marked below it.
+    #[inline(always)]
     pub(crate) fn next(&self, slot: usize, from: usize, end: usize) -> usize
         requires slot { slot < length self.now }
         requires from { from ≤ end }

@@ -83,6 +83,7 @@ pub fn unpack(word: u32) -> Result<Header, HeaderFault>
 
 /// What a router does to a header: the output port that it takes, and the word that it sends on,
 /// whose route has moved on by one port.
+#[inline(always)]
 pub fn hop(word: u32) -> (u8, u32)
     ensures port { result.0 ≡ port_of word }
     ensures word { result.1 ≡ next_word word }
@@ -95,6 +96,7 @@ pub fn hop(word: u32) -> (u8, u32)
 
 // The lowest bits of a word.
 #[tactic(auto, using(crate::proofs::Shifts::and_ones))]
+#[inline(always)]
 fn low_bits(word: u32, bits: u32) -> u32
     requires { bits < 32 }
     ensures { result ≡ word % 2 ^ bits }
@@ -104,6 +106,7 @@ fn low_bits(word: u32, bits: u32) -> u32
 
 // The word moved up by some bits, with a field in these.
 #[tactic(auto, using(crate::proofs::Shifts::or_above))]
+#[inline(always)]
 fn append(word: u32, bits: u32, field: u32) -> u32
     requires below_width { bits < 32 }
     requires room { word * 2 ^ bits < 2 ^ 32 }

@@ -167,6 +167,7 @@ impl Ni {
 
     /// The queue and the word count of the flit that was latched last; `None` exactly where the
     /// last `latch` brought none, or there was no `latch`.
+    #[inline(always)]
     pub fn last(&self) -> Option<(u8, u8)>
         ensures last { result ≡ self.now.last }
         ensures interface { IsInterface self.now.entries self.now.queues }
@@ -198,6 +199,7 @@ impl Ni {
 
     /// Lands a flit that came on the entering link, as `latch` does, and gives its queue and its word count,
     /// which is what `last` tells then.
+    #[inline(always)]
     pub fn land(&mut self, flit: Flit) -> Option<(u8, u8)>
         ensures landed { self.new ≡ absorbed (arrival_of (Some flit)) self.old }
         ensures last { result ≡ last_of (arrival_of (Some flit)) }
@@ -207,6 +209,7 @@ impl Ni {
     }
 
     /// Whether the queue of a cycle's slot sends nothing, as the interface stands.
+    #[inline(always)]
     pub fn is_mute(&self, cycle: u64) -> bool
         ensures { IsTrue result
             ↔ (emitted_by (queue_at_cycle self.now.entries cycle) self.now.queues ≡ None) }
@@ -216,6 +219,7 @@ impl Ni {
     }
 
     /// Whether the queue of a slot sends nothing, as the interface stands.
+    #[inline(always)]
     pub fn is_mute_in(&self, slot: usize) -> bool
         requires { slot < length self.now.entries }
         ensures { IsTrue result
@@ -226,6 +230,7 @@ impl Ni {
 
     /// Whether a queue sends nothing in a slot of its own, as the interface stands. A number that none of
     /// the 32 queues has sends nothing.
+    #[inline(always)]
     pub fn is_queue_mute(&self, queue: u8) -> bool
         ensures { IsTrue result ↔ (emitted (queue_at self.now.queues queue) ≡ None) }
     {
@@ -300,6 +305,7 @@ fn emit_by(queues: &mut [Queue], entry: Option<u8>) -> Option<Flit>
 }
 
 // Whether the queue of an entry sends nothing.
+#[inline(always)]
 fn is_mute(queues: &[Queue], entry: Option<u8>) -> bool
     requires { IfSome entry (λ queue. queue < length queues.now) }
     ensures { IsTrue result ↔ (emitted_by entry queues.now ≡ None) }
@@ -311,6 +317,7 @@ fn is_mute(queues: &[Queue], entry: Option<u8>) -> bool
 }
 
 // Lands what a link brings, and gives the queue and the word count of it.
+#[inline(always)]
 fn land(queues: &mut [Queue], flit: Option<Flit>) -> Option<(u8, u8)>
     requires { length queues.old ≡ queues_of_interface }
     ensures last { result ≡ last_of (arrival_of flit) }

@@ -166,6 +166,7 @@ impl Queue {
     }
 
     /// Whether the queue sends nothing in a slot of its own.
+    #[inline(always)]
     pub(crate) fn is_mute(&self) -> bool
         ensures { IsTrue result ↔ (emitted self.now ≡ None) }
     {

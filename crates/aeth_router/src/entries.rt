@@ -73,6 +73,7 @@ pub(crate) fn set_entry(
 }
 
 // The entry of a port for a slot.
+#[inline(always)]
 pub(crate) fn entry_at(
     entries: &[Option<u16>],
     slots: usize,
@@ -86,6 +87,7 @@ pub(crate) fn entry_at(
 }
 
 // Whether an entry is the place of a wire.
+#[inline(always)]
 pub(crate) fn is_from(incoming: &[LinkId], wire: LinkId, entry: Option<u16>) -> bool
     ensures { result ≡ is_from (numbers_of incoming.now) wire.0 entry }
 {

@@ -25,6 +25,7 @@ pub enum Forwarding {
 
 impl Forwarding {
     /// Passes a flit on: it goes to each wire on which it is sent. It takes a step.
+    #[inline(always)]
     pub fn pass(&self, flit: Flit, onward: &mut Onward)
         requires { (out : ℕ) → IsSome (sent_by self.now out flit) → out < length onward.old }
         ensures { Adds (λ out. sent_by self.now out flit) onward.old onward.new }
@@ -43,6 +44,7 @@ impl Forwarding {
 }
 
 // The wire of a port, if it has one.
+#[inline(always)]
 fn wire_of(wires: &[Option<LinkId>], port: u8) -> Option<LinkId>
     ensures { result ≡ wire_for wires.now port }
 {

@@ -49,6 +49,7 @@ impl Onward {
     }
 
     /// A flit comes to a wire: one flit has come then, or several.
+    #[inline(always)]
     pub fn add(&mut self, wire: LinkId, flit: Flit)
         requires { wire.0 < length self.old }
         ensures { self.new

@@ -53,6 +53,7 @@ impl Part {
     }
 
     /// Whether the component is a router that looks a table up.
+    #[inline(always)]
     pub fn has_table(&self) -> bool
         ensures { result ≡ has_table self.now }
     {

@@ -179,6 +179,7 @@ impl TableRouter {
     }
 
     // Whether a port sends on in a slot what comes by a wire.
+    #[inline(always)]
     fn is_sent_by(&self, slot: u32, wire: LinkId, port: usize) -> bool
         requires { slot < self.now.slots }
         ensures is { port < length self.now.outgoing → result ≡ is_sent_by self.now slot wire.0 port }

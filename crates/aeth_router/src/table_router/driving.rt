@@ -24,6 +24,7 @@ use aeth_header::hop;
 impl TableRouter {
     // Passes on in a cycle a flit from a wire, to each port whose entry is the wire's place. Where no two
     // ports have one wire, and it's the wire of the port that the flit names, no other is looked at.
+    #[inline(always)]
     pub(crate) fn pass(&self, cycle: u32, wire: LinkId, flit: Flit, onward: &mut Onward)
         requires { AreLinks (table_outputs self.now) (length onward.old) }
         ensures { Adds (sent_on self.now.outgoing (λ port. if is_sent_by self.now
