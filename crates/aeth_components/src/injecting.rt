@@ -36,11 +36,13 @@ use std::sync::ledger::Ledger;
 const MOST_SLOTS: usize = 128;
 
 // For each slot marks of the interfaces that may send in it, and for each queue of each interface marks of
-// the slots that have its entry.
+// the slots that have its entry, or had it until another queue got the slot.
 #[derive(Drop)]
 pub(crate) struct Injecting {
     pub slots: SlotMarks,
     pub entries: Marks,
+    // The queue whose entry for a slot was noted last, so that a clear one is found.
+    latest: Vec<u8>,
 }
 
 impl Injecting {
@@ -58,6 +60,7 @@ impl Injecting {
         Ok(Injecting {
             slots: SlotMarks::none(alloc, slots, parts)?,
             entries: Marks::none(alloc, entries)?,
+            latest: vec![in alloc; 0; parts as usize * MOST_SLOTS]?,
         })
     }
 
@@ -161,13 +164,16 @@ impl Injecting {
     {
         if slot < self.slots.len() {
             self.entries.mark(place_of(number, queue, slot));
+            if let Some(latest) = self.latest.get_mut(MOST_SLOTS * number + slot) {
+                *latest = queue;
+            }
             if may_send(part, queue) {
                 self.slots.mark(slot, number);
             }
         }
     }
 
-    // No queue of an interface has the entry for a slot.
+    // The queue of an interface that had the entry for a slot last has it no more.
     fn clear(&mut self, number: usize, slot: usize)
         requires { HasPlaces (number + 1) self.old }
         ensures slots { self.new.slots ≡ self.old.slots }
@@ -176,8 +182,8 @@ impl Injecting {
             → IsEntered self.old other queue at → IsEntered self.new other queue at }
     {
         if slot < self.slots.len() {
-            for queue in 0..QUEUES_OF_INTERFACE as u8 {
-                self.entries.unmark(place_of(number, queue, slot));
+            if let Some(queue) = self.latest.get(MOST_SLOTS * number + slot) {
+                self.entries.unmark(place_of(number, *queue, slot));
             }
         }
     }
