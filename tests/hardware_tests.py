@@ -344,7 +344,7 @@ class Statuses(WithHardware):
         files = self.example("pair", "two", 150, 8)
         for more, tells in (
             (files[:6] + ["0"], "a run has 1 to 1,000,000 cycles"), (files[:6] + ["many"], "`many` is no whole number"),
-            (files + ["--with", "other"], "invalid choice: 'other'"), (files[:5], "required: switches, cycles"),
+            (files + ["--with", "other"], "invalid choice: 'other'"), (files[:5], "required: SWITCHES, CYCLES"),
         ):
             status, text, errors = self.run_script("design", "cosim", *more)
             self.assertEqual((status, text, errors.count("\n")), (1, "", 1))
