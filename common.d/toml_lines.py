@@ -17,6 +17,8 @@ Path = tuple[str | int, ...]
 MOST_DEPTH = 80  # of arrays and inline tables, one within another; and the parts of a key
 MOST_VALUES = 200_000  # keys, and values other than strings; what is accepted has less than a tenth
 
+# Python before 3.11.5 goes on from a wrong place where a turn of a group with `*+` or `++` fails behind a repeat or beside an
+# assertion. So the turns of such groups are plain letters and sets here.
 BLANK = re.compile(r"[ \t]*")
 COMMENT = re.compile(r"#[^\x00-\x08\x0a-\x1f\x7f]*")
 GAP = re.compile(r"(?:[ \t\n]++|#[^\x00-\x08\x0a-\x1f\x7f]*+)*+")
@@ -24,19 +26,21 @@ BARE = re.compile(r"[A-Za-z0-9_-]+")
 BASIC = r'"(?:[^"\\\x00-\x08\x0a-\x1f\x7f]|\\[^\n])*+"'
 LITERAL = r"'[^'\x00-\x08\x0a-\x1f\x7f]*+'"
 STRING = re.compile(f"{BASIC}|{LITERAL}")
-GAP_OF_STRINGS = r"(?:[ \t\n]++|#[^\x00-\x08\x0a-\x1f\x7f]*+\n)*+"
-STRINGS = re.compile(rf"(?:{GAP_OF_STRINGS}(?!\"\"\"|''')(?:{BASIC}|{LITERAL}){GAP_OF_STRINGS},)++")
-EACH_STRING = re.compile(rf"{GAP_OF_STRINGS}({BASIC}|{LITERAL}){GAP_OF_STRINGS},")
+EACH_STRING = re.compile(rf"{GAP.pattern}(?!\"\"\"|''')({BASIC}|{LITERAL}){GAP.pattern},")
+LETTER = r'[^"\\\x00-\x08\x0b-\x1f\x7f]'
+SPELLED = r"\\[^\x00]"
+PLAIN = r"[^'\x00-\x08\x0b-\x1f\x7f]"
 LONG = {
-    '"""': re.compile(r'"""\n?((?:[^"\\\x00-\x08\x0b-\x1f\x7f]|\\[^\x00]|"(?!""))*+"{0,2})"""(?!")'),
-    "'''": re.compile(r"'''\n?((?:[^'\x00-\x08\x0b-\x1f\x7f]|'(?!''))*+'{0,2})'''(?!')"),
+    '"""': re.compile(
+        rf'"""\n?((?:{LETTER}|{SPELLED}|"{LETTER}|"{SPELLED}|""{LETTER}|""{SPELLED})*+"{{0,2}})"""(?!")'),
+    "'''": re.compile(rf"'''\n?((?:{PLAIN}|'{PLAIN}|''{PLAIN})*+'{{0,2}})'''(?!')"),
 }
 ESCAPE = re.compile(r"\\(?:x([0-9A-Fa-f]{2})|u([0-9A-Fa-f]{4})|U([0-9A-Fa-f]{8})|([ \t]*\n[ \t\n]*)|(.?))", re.S)
 ESCAPES = {"b": "\b", "t": "\t", "n": "\n", "f": "\f", "r": "\r", "e": "\x1b", '"': '"', "\\": "\\"}
-DIGITS = "[0-9](?:_?[0-9])*+"
-DECIMAL = "(?:0|[1-9](?:_?[0-9])*+)"
+DIGITS = "[0-9](?:_[0-9]|[0-9])*+"
+DECIMAL = "(?:0|[1-9](?:_[0-9]|[0-9])*+)"
 NUMBER = re.compile(
-    "(?P<based>0x[0-9A-Fa-f](?:_?[0-9A-Fa-f])*+|0o[0-7](?:_?[0-7])*+|0b[01](?:_?[01])*+)"
+    "(?P<based>0x[0-9A-Fa-f](?:_[0-9A-Fa-f]|[0-9A-Fa-f])*+|0o[0-7](?:_[0-7]|[0-7])*+|0b[01](?:_[01]|[01])*+)"
     rf"|(?P<float>[+-]?(?:inf|nan|{DECIMAL}(?:\.{DIGITS}(?:[eE][+-]?{DIGITS})?|[eE][+-]?{DIGITS})))"
     f"|(?P<decimal>[+-]?{DECIMAL})"
 )
@@ -309,14 +313,14 @@ class Reader:
 
     def strings(self, place: Place) -> list[str]:
         """The strings with which an array begins, up to the last comma behind one, all at once."""
-        found = STRINGS.match(self.text, self.at)
-        if not found:
-            return []
-        items, kept = [], self.kept
-        for each in EACH_STRING.finditer(self.text, self.at, found.end()):
+        items: list[str] = []
+        start, kept = self.at, self.kept
+        while each := EACH_STRING.match(self.text, self.at):
             said = kept.get(each[1])
             items.append(self.unescaped(each[1], each.start(1)) if said is None else said)
-        place.strings, self.at = (len(items), self.at, found.end()), found.end()
+            self.at = each.end()
+        if items:
+            place.strings = len(items), start, self.at
         return items
 
     def inline_table(self, place: Place, depth: int) -> Tree:

@@ -3,7 +3,6 @@ from argparse import Namespace
 from collections.abc import Sequence
 from dataclasses import dataclass
 from pathlib import Path
-import tempfile
 
 from cosim_compare import MOST_CYCLES_OF_LINKS, Comparison
 from cosim_simulators import SIMULATORS, Broken, compiled, found, played
@@ -15,6 +14,7 @@ from rtl import make_folder
 from rtl_bench import Run, Stimuli
 from rtl_tables import Network, read_network
 from run_texts import read_receivers, read_switches, read_words
+from scratch_folder import scratch_folder
 
 __all__ = ["SIMULATORS", "Simulation", "cosim", "verdict"]
 
@@ -73,8 +73,8 @@ def verdict(of: Simulation, progress: Progress) -> Result:
     links = text_of("links", *of.files, min(of.cycles, MOST_CYCLES_OF_LINKS))
     log = text_of("simulate", *of.files, of.cycles)
     simulator, run = found(of.simulator), Run(of.network, of.stimuli)
-    with tempfile.TemporaryDirectory(prefix="aeth-cosim-") as room:
-        folder = Path(room) / "hardware"
+    with scratch_folder("aeth-cosim-") as room:
+        folder = room / "hardware"
         try:
             made = make_folder(folder, of.network, run)
         except OSError as error:

@@ -1,4 +1,5 @@
 """Tests of `./aeth completion`: what bash and zsh offer for the words of `aeth`, `design` and `draw`."""
+import os
 import re
 import shutil
 import subprocess
@@ -151,5 +152,8 @@ class Words(WithText):
         self.assertEqual(self.home.built(), 0)
 
     def test_a_text_that_cant_be_written(self):
-        with open("/dev/full", "wb") as full:
-            self.assertEqual(self.home.run("completion", "bash", out=full)[0], 5)
+        reader, pipe = os.pipe()
+        os.close(reader)
+        with open("/dev/full", "wb") as full, open(pipe, "wb") as unread:
+            for out in (full, unread):
+                self.assertEqual(self.home.run("completion", "bash", out=out)[0], 5)

@@ -276,7 +276,7 @@ class Faults(Flows):
     def test_words(self):
         for words, tells in (
             (("app", "f.csv"), "--clock is missing: it tells how many cycles a second has, as --clock 500MHz"),
-            (("app", "--clock", "1GHz"), "the following arguments are required: flows"),
+            (("app", "--clock", "1GHz"), "the following arguments are required: FLOWS; `./design help app` tells more"),
             (("app", "f.csv", "--clock", "1GHz", "--smooth", "u"), "--smooth: it takes two use cases or more, with commas between"),
             (("app", "f.csv", "--clock", "1GHz", "--smooth", "u,main"), "--smooth: no use case has the name u: they are main"),
             (("app", "f.csv", "--clock", "1GHz", "--detour", "5"), "a detour is 0 to 4 links"),

@@ -7,8 +7,10 @@ where they can't be had the tests fail.
 import os
 import re
 import shutil
+import signal
 import subprocess
 import sys
+import time
 import tomllib
 import unittest
 
@@ -342,7 +344,7 @@ class Statuses(WithHardware):
         files = self.example("pair", "two", 150, 8)
         for more, tells in (
             (files[:6] + ["0"], "a run has 1 to 1,000,000 cycles"), (files[:6] + ["many"], "`many` is no whole number"),
-            (files + ["--with", "other"], "invalid choice: 'other'"), (files[:5], "required: switches, cycles"),
+            (files + ["--with", "other"], "invalid choice: 'other'"), (files[:5], "required: SWITCHES, CYCLES"),
         ):
             status, text, errors = self.run_script("design", "cosim", *more)
             self.assertEqual((status, text, errors.count("\n")), (1, "", 1))
@@ -384,3 +386,15 @@ class Statuses(WithHardware):
         status, text, errors = self.run_script("design", "cosim", *files, "--wave", "no_folder/file")
         self.assertEqual((status, text), (5, ""))
         self.assertTrue(errors.endswith("design: no_folder/file: No such file or directory\n"))
+
+    def test_a_signal_leaves_no_folder(self):
+        (room := self.home.room / "scratch").mkdir()
+        words = [str(word) for word in (self.home.top / "design", "cosim", *self.example("pair", "two", 150, 8))]
+        settings = {**self.home.settings, **self.bare(iverilog="exec sleep 60", vvp=""), "TMPDIR": str(room)}
+        for number in (signal.SIGHUP, signal.SIGINT, signal.SIGTERM):
+            first = lambda number=number: signal.signal(number, signal.SIG_DFL)
+            with subprocess.Popen(words, cwd=self.home.top, env=settings, preexec_fn=first) as ran:
+                while ran.poll() is None and not list(room.iterdir()):
+                    time.sleep(0.05)
+                ran.send_signal(number)
+            self.assertEqual((ran.returncode, list(room.iterdir())), (-number, []))
