@@ -26,3 +26,4 @@ pub mod SlotMarks
 pub mod Switching
 pub mod FlitsOnWires
 pub mod View
+pub mod Worklist

@@ -19,7 +19,8 @@ use crate::homes::Homes;
 use crate::injecting::Injecting;
 use crate::noted::Noted;
 use crate::phases::{mark_idle, refill_one, rest, take_one};
-use aeth_base::{Marks, NoMemory};
+use crate::worklist::Worklist;
+use aeth_base::NoMemory;
 use aeth_router::Part;
 use std::alloc::Global;
 use std::marker::Model;
@@ -31,8 +32,8 @@ pub(crate) struct Channels {
     channel_states: Vec<ChannelState>,
     words: Vec<u32>,
     // Marks of the channels that may not be idle, and of those whose receivers may take words.
-    busy: Marks,
-    taking: Marks,
+    busy: Worklist,
+    taking: Worklist,
     // At which queues the words of channels land.
     homes: Homes,
 }

@@ -12,7 +12,7 @@ ghost use Rattle.aeth_components.specs.ChannelStates.{IsChannelState, with_chann
 use crate::channel_state::ChannelState;
 use crate::homes::{Homes, channel_of};
 use crate::parts::{brought, is_silent};
-use aeth_base::Marks;
+use crate::worklist::Worklist;
 use aeth_router::Part;
 
 // Counts what has landed of one channel, and tells whether any has.
@@ -52,7 +52,7 @@ pub(crate) fn count_one(
 // may take.
 fn count_at(
     channel_states: &mut [ChannelState],
-    taking: &mut Marks,
+    taking: &mut Worklist,
     parts: &[Part],
     number: usize,
     landings: &mut [u32],
@@ -77,7 +77,7 @@ fn count_at(
 // Counts what has landed of the channels that receive at one interface.
 pub(crate) fn count_received(
     channel_states: &mut [ChannelState],
-    taking: &mut Marks,
+    taking: &mut Worklist,
     homes: &Homes,
     parts: &[Part],
     number: usize,

@@ -1,6 +1,6 @@
 // Which channels enqueue words, and which of them wait for room in their source queues.
 
-ghost use Rattle.std.specs.Prelude.{◌≡◌, ◌<◌, IfOk, List, length};
+ghost use Rattle.std.specs.Prelude.{◌≡◌, ◌<◌, ◌^◌, IfOk, List, length};
 ghost use Rattle.aeth_base.specs.Marks.{bit_of, room_of};
 ghost use Rattle.aeth_components.specs.Enqueuing.{AreEnqueuing, HasEvent, HasWaitingPlaces};
 ghost use Rattle.aeth_components.specs.Enqueuing.{MarksIdle};
@@ -10,6 +10,7 @@ ghost use Rattle.aeth_router.specs.declared.part.Part.{Part as PartState};
 use crate::channel_state::ChannelState;
 use crate::event::Event;
 use crate::homes::{INTERFACES, QUEUES, place_of};
+use crate::worklist::Worklist;
 use aeth_base::{Marks, NoMemory};
 use std::alloc::Global;
 
@@ -17,7 +18,7 @@ use std::alloc::Global;
 // or waits at the place of its source queue, which is full.
 #[derive(Drop)]
 pub(crate) struct Enqueuing {
-    pub marks: Marks,
+    pub marks: Worklist,
     // Marks of the places at which a channel waits, and for each place the channel that waited last.
     pub waiting: Marks,
     pub numbers: Vec<usize>,
@@ -26,12 +27,13 @@ pub(crate) struct Enqueuing {
 impl Enqueuing {
     // Each of so many channels may enqueue words. Later calls take no memory.
     pub(crate) fn new(alloc: Global, count: usize) -> Result<Enqueuing, NoMemory>
+        requires { count < 2 ^ 63 }
         ensures { IfOk result
             (λ enqueuing. (parts : List PartState) (channel_states : List ChannelState)
             → length channel_states ≡ count → AreEnqueuing parts channel_states enqueuing) }
     {
         Ok(Enqueuing {
-            marks: Marks::all(alloc, count)?,
+            marks: Worklist::all(alloc, count)?,
             waiting: Marks::none(alloc, INTERFACES * QUEUES)?,
             numbers: vec![in alloc; 0; INTERFACES * QUEUES]?,
         })

@@ -26,6 +26,7 @@ mod replacing;
 mod sending;
 mod slot_marks;
 mod turns;
+mod worklist;
 
 pub use channel_state::{ChannelEnd, ChannelState};
 pub use components::Components;

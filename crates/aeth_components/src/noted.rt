@@ -5,15 +5,16 @@ ghost use Rattle.aeth_components.specs.Busy.{AreNoted};
 
 use crate::channel_state::ChannelState;
 use crate::homes::Homes;
-use aeth_base::{Marks, NoMemory};
+use crate::worklist::Worklist;
+use aeth_base::NoMemory;
 use std::alloc::Global;
 
 // Marks of the channels that may not be idle, marks of those whose receivers may take words, and at which
 // queues the words of channels land.
 #[derive(Drop)]
 pub(crate) struct Noted {
-    pub busy: Marks,
-    pub taking: Marks,
+    pub busy: Worklist,
+    pub taking: Worklist,
     pub homes: Homes,
 }
 
@@ -24,8 +25,8 @@ impl Noted {
         ensures { IfOk result
             (λ noted. AreNoted noted.busy noted.taking noted.homes channel_states.now) }
     {
-        let busy = Marks::all(alloc, channel_states.len())?;
-        let taking = Marks::all(alloc, channel_states.len())?;
+        let busy = Worklist::all(alloc, channel_states.len())?;
+        let taking = Worklist::all(alloc, channel_states.len())?;
         let homes = Homes::new(alloc, channel_states)?;
         Ok(Noted {
             busy,

@@ -14,7 +14,7 @@ use crate::channel_state::ChannelState;
 use crate::event::Event;
 use crate::injecting::Injecting;
 use crate::parts::{dequeue, enqueue, meet};
-use aeth_base::Marks;
+use crate::worklist::Worklist;
 use aeth_router::Part;
 
 // Does the events of a cycle, one after the other, and notes who may inject from then on.
@@ -90,7 +90,7 @@ pub(crate) fn take_one(
 }
 
 // Marks a channel no more where it is idle.
-pub(crate) fn mark_idle(busy: &mut Marks, channel_states: &[ChannelState], number: usize)
+pub(crate) fn mark_idle(busy: &mut Worklist, channel_states: &[ChannelState], number: usize)
     requires number { number < length channel_states.now }
     requires marked { AreMarked IsChannelIdle busy.old channel_states.now }
     ensures { AreMarked IsChannelIdle busy.new channel_states.now }
@@ -105,7 +105,7 @@ pub(crate) fn mark_idle(busy: &mut Marks, channel_states: &[ChannelState], numbe
 }
 
 // Marks a channel no more where its receiver takes nothing.
-pub(crate) fn rest(taking: &mut Marks, channel_states: &[ChannelState], number: usize)
+pub(crate) fn rest(taking: &mut Worklist, channel_states: &[ChannelState], number: usize)
     requires number { number < length channel_states.now }
     requires marked { AreMarked TakesNothing taking.old channel_states.now }
     ensures { AreMarked TakesNothing taking.new channel_states.now }
