@@ -1,7 +1,6 @@
 -- Events with their cycles, in two lists.
 -- This project's own.
-use Rattle.std.proofs.Common.{ℕ, List, map}
-use Rattle.std.specs.List.{zip}
+use Rattle.std.{proofs.Common.ℕ, proofs.Common.List, proofs.Common.map, specs.List.zip}
 use Rattle.aeth_components.specs.declared.event.Event.{Event}
 use Rattle.aeth_schedule.specs.declared.timed.Timed.{Timed}
 

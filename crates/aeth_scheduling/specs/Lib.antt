@@ -1,4 +1,5 @@
 pub mod Beside
+pub mod Changes
 pub mod Entered
 pub mod Made
 pub mod Parts

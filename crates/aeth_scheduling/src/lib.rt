@@ -2,6 +2,7 @@
 //! before the first cycle.
 #![tactic(auto)]
 
+mod changes;
 mod closing;
 mod durations;
 mod entering;

@@ -79,8 +79,9 @@ fn parts_of(alloc: Global, inputs: &RunInputs, task: &Task) -> Result<Parts, NoM
     inputs.are_accepted();
     let rows = inputs.switches().rows();
     let loaded = loaded_of(alloc, task.all, rows)?;
-    let timed = timed_events(alloc, task, rows)?;
-    let session_starts = session_starts_of(alloc, task, rows)?;
+    let mut found = Vec::new(alloc);
+    let timed = timed_events(alloc, task, &mut found, rows)?;
+    let session_starts = session_starts_of(alloc, task, &mut found, rows)?;
     let windows = windows_of(alloc, task, rows)?;
     let rooms = rooms_of(alloc, inputs)?;
     Ok(Parts {

@@ -7,9 +7,11 @@ ghost use Rattle.aeth_schedule.specs.SessionStarts.{session_start_by, session_st
 ghost use Rattle.aeth_schedule.specs.SessionStarts.{session_start_within, session_starts_behind};
 ghost use Rattle.aeth_schedule.specs.SessionStarts.{session_starts_from};
 ghost use Rattle.aeth_schedule.specs.Lines.{changed_lines, lines_at};
+ghost use Rattle.aeth_scheduling.specs.Changes.{AreChanges};
 ghost use Rattle.aeth_scheduling.specs.Made.{AreRows};
 ghost use Rattle.aeth_scheduling.specs.Staying.{AreEntered};
 
+use crate::changes::{Change, change_among, change_of};
 use crate::closing::close_in;
 use crate::entering::{Entering, uses_of};
 use crate::placing::{before, start};
@@ -25,9 +27,11 @@ use std::alloc::Global;
 pub(crate) fn session_starts_of(
     alloc: Global,
     task: &Task,
+    found: &mut Vec<Change>,
     rows: &[SwitchRow],
 ) -> Result<Vec<SessionStartByLine>, NoMemory>
-    requires { AreRows (length task.now.groups.now.uses) rows.now }
+    requires rows { AreRows (length task.now.groups.now.uses) rows.now }
+    requires found { AreChanges task.now.groups.now task.now.all.now found.old.items }
     ensures { IfOk result
         (λ list. session_starts_at task.now.all.now list.items
         ≡ session_start_within task.now.cycles (session_starts_from
@@ -43,7 +47,7 @@ pub(crate) fn session_starts_of(
             entered: &entered,
         };
         push_first(&mut list, task, &first)?;
-        push_later(&mut list, task, &first)?;
+        push_later(alloc, &mut list, task, found, &first)?;
     }
     Ok(list)
 }
@@ -93,12 +97,15 @@ fn push_each(
 
 // Appends the sessions that the switches behind the first row open.
 fn push_later(
+    alloc: Global,
     list: &mut Vec<SessionStartByLine>,
     task: &Task,
+    found: &mut Vec<Change>,
     first: &Entering,
 ) -> Result<(), NoMemory>
-    requires { AreEntered (length task.now.groups.now.uses) first.now.entered.now
+    requires rows { AreEntered (length task.now.groups.now.uses) first.now.entered.now
         (first.now.row.now ∷ first.now.later.now) }
+    requires found { AreChanges task.now.groups.now task.now.all.now found.old.items }
     ensures { OnOk result (session_starts_at task.now.all.now list.new.items
         ≡ session_starts_at task.now.all.now list.old.items ++ session_start_within task.now.cycles
         (session_starts_behind task.now.groups.now task.now.spans.now
@@ -113,7 +120,7 @@ fn push_later(
             later: &first.later[place + 1..],
             entered: first.entered,
         };
-        push_opened(list, task, from, &entering)?;
+        push_opened(alloc, list, task, found, from, &entering)?;
         from = row.to;
     }
     Ok(())
@@ -121,15 +128,18 @@ fn push_later(
 
 // Appends the sessions that a switch opens, where they go within the run.
 fn push_opened(
+    alloc: Global,
     list: &mut Vec<SessionStartByLine>,
     task: &Task,
+    found: &mut Vec<Change>,
     from: UseId,
     entering: &Entering,
 ) -> Result<(), NoMemory>
     requires from { from.0 < length task.now.groups.now.uses }
     requires rows { AreEntered (length task.now.groups.now.uses) entering.now.entered.now
         (entering.now.row.now ∷ entering.now.later.now) }
-    ensures { OnOk result (session_starts_at task.now.all.now list.new.items
+    requires found { AreChanges task.now.groups.now task.now.all.now found.old.items }
+    ensures session_starts { OnOk result (session_starts_at task.now.all.now list.new.items
         ≡ session_starts_at task.now.all.now list.old.items ++ session_start_within task.now.cycles
         (map (session_start_by task.now.groups.now task.now.spans.now
         task.now.all.now task.now.words.now task.now.cycles
@@ -137,41 +147,43 @@ fn push_opened(
         entering.now.later.now)
         (changed_lines task.now.groups.now from.0 entering.now.row.now.to.0
         (lines_at task.now.all.now entering.now.row.now.to.0)))) }
+    ensures found { OnOk result (AreChanges task.now.groups.now task.now.all.now
+        found.new.items) }
 {
     let go = go_by(task.spans, from, entering.row);
     if go >= u64::from(task.cycles) {
         return Ok(());
     }
-    let lines = lines_in(task.all, entering.row.to);
-    push_changed(list, task, from, lines, go as u32, entering)
+    if let Some(change) = change_among(task, found, from, entering.row.to) {
+        return push_changed(list, task, &change.opening, go as u32, entering);
+    }
+    let change = change_of(alloc, task, from, entering.row.to)?;
+    push_changed(list, task, &change.opening, go as u32, entering)?;
+    found.push(change)?;
+    Ok(())
 }
 
-// Appends the sessions of those channels that a switch doesn't keep.
+// Appends the sessions of the channels of the lines at these places, which go in a cycle with a row's use case.
 fn push_changed(
     list: &mut Vec<SessionStartByLine>,
     task: &Task,
-    from: UseId,
-    lines: &[Line],
+    places: &[usize],
     go: u32,
     entering: &Entering,
 ) -> Result<(), NoMemory>
-    requires from { from.0 < length task.now.groups.now.uses }
-    requires lines { lines.now ≡ lines_at task.now.all.now entering.now.row.now.to.0 }
-    requires known { All (λ line. line.row.channel.conn.0 < length task.now.starts.now) lines.now }
+    requires places { All (λ place. place
+        < length (lines_at task.now.all.now entering.now.row.now.to.0)) places.now }
     requires rows { AreEntered (length task.now.groups.now.uses) entering.now.entered.now
         (entering.now.row.now ∷ entering.now.later.now) }
     ensures { OnOk result (session_starts_at task.now.all.now list.new.items
         ≡ session_starts_at task.now.all.now list.old.items ++ map
         (session_start_in task.now.groups.now task.now.spans.now task.now.words.now
         task.now.cycles go entering.now.row.now.to.0 entering.now.later.now)
-        (changed_lines task.now.groups.now from.0 entering.now.row.now.to.0 lines.now)) }
+        (map (line_at task.now.all.now entering.now.row.now.to.0) places.now)) }
 {
-    let to = entering.row.to;
-    for place in 0..lines.len() {
-        let line = &lines[place];
-        if !task.groups.kept(from, to, line.row.channel.conn) {
-            push_session_start(list, task, line, place, go, entering)?;
-        }
+    let lines = lines_in(task.all, entering.row.to);
+    for place in places {
+        push_session_start(list, task, &lines[*place], *place, go, entering)?;
     }
     Ok(())
 }

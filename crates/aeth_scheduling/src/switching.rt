@@ -1,38 +1,42 @@
 // What the switches of a run do to tables and queues.
 
 ghost use Rattle.std.specs.Prelude.{◌≡◌, ◌++◌, ◌<◌, All, IfOk, OnOk, [], flat_map, length, map};
-ghost use Rattle.aeth_schedule.specs.Lines.{lines_at};
-ghost use Rattle.aeth_scheduling.specs.Made.{changed_rows, events_over};
-ghost use Rattle.aeth_scheduling.specs.Made.{loaded_over, timed_over};
+ghost use Rattle.aeth_scheduling.specs.Changes.{AreChanges};
+ghost use Rattle.aeth_scheduling.specs.Made.{events_over, loaded_over, timed_over};
 ghost use Rattle.aeth_ni.specs.Program.{program_of};
 ghost use Rattle.aeth_schedule.specs.Switching.{changes, switches_from};
-ghost use Rattle.aeth_schedule.specs.Timed.{within};
+ghost use Rattle.aeth_schedule.specs.Timed.{switching_events, within};
 
+use crate::changes::{Change, change_among, change_of};
 use crate::task::Task;
 use crate::timed::{TimedEvents, push_switching};
 use aeth_base::{NoMemory, UseId};
 use aeth_components::Event;
-use aeth_group::Groups;
 use aeth_ni::{ChannelRow, Write};
-use aeth_reconf::{close_by, program};
-use aeth_schedule::{Line, Lines, lines_in};
+use aeth_reconf::{Close, close_by, program};
+use aeth_schedule::{Line, Lines};
 use aeth_trace::SwitchRow;
 use std::alloc::Global;
 
-// The events of all switches behind the first row, below the end of the run.
+// The events of all switches behind the first row, below the end of the run. What a switch between two use
+// cases changes is looked up among what was found of others, and joins it.
 pub(crate) fn timed_events(
     alloc: Global,
     task: &Task,
+    found: &mut Vec<Change>,
     rows: &[SwitchRow],
 ) -> Result<TimedEvents, NoMemory>
-    requires { All (λ row. row.to.0 < length task.now.groups.now.uses) rows.now }
-    ensures { IfOk result (λ list. list
+    requires rows { All (λ row. row.to.0 < length task.now.groups.now.uses) rows.now }
+    requires found { AreChanges task.now.groups.now task.now.all.now found.old.items }
+    ensures events { IfOk result (λ list. list
         ≡ timed_over task.now.groups.now task.now.spans.now task.now.all.now rows.now
         task.now.cycles) }
+    ensures found { OnOk result (AreChanges task.now.groups.now task.now.all.now
+        found.new.items) }
 {
     let mut list = TimedEvents::new(alloc);
     if let [first, later @ ..] = rows {
-        push_events(alloc, &mut list, task, first.to, later)?;
+        push_events(alloc, &mut list, task, found, first.to, later)?;
     }
     Ok(list)
 }
@@ -42,18 +46,22 @@ fn push_events(
     alloc: Global,
     list: &mut TimedEvents,
     task: &Task,
+    found: &mut Vec<Change>,
     first: UseId,
     rows: &[SwitchRow],
 ) -> Result<(), NoMemory>
     requires first { first.0 < length task.now.groups.now.uses }
     requires known { All (λ row. row.to.0 < length task.now.groups.now.uses) rows.now }
-    ensures { OnOk result (list.new ≡ list.old ++ within task.now.cycles (flat_map
+    requires found { AreChanges task.now.groups.now task.now.all.now found.old.items }
+    ensures events { OnOk result (list.new ≡ list.old ++ within task.now.cycles (flat_map
         (events_over task.now.groups.now task.now.spans.now task.now.all.now)
         (switches_from first.0 rows.now))) }
+    ensures found { OnOk result (AreChanges task.now.groups.now task.now.all.now
+        found.new.items) }
 {
     let mut from = first;
     for row in rows {
-        push_switch(alloc, list, task, from, row)?;
+        push_switch(alloc, list, task, found, from, row)?;
         from = row.to;
     }
     Ok(())
@@ -64,63 +72,43 @@ fn push_switch(
     alloc: Global,
     list: &mut TimedEvents,
     task: &Task,
+    found: &mut Vec<Change>,
     from: UseId,
     row: &SwitchRow,
 ) -> Result<(), NoMemory>
     requires from { from.0 < length task.now.groups.now.uses }
     requires to { row.now.to.0 < length task.now.groups.now.uses }
-    ensures { OnOk result (list.new ≡ list.old ++ within task.now.cycles
+    requires found { AreChanges task.now.groups.now task.now.all.now found.old.items }
+    ensures events { OnOk result (list.new ≡ list.old ++ within task.now.cycles
         (events_over task.now.groups.now task.now.spans.now task.now.all.now
         (record { leaves = from.0; row = row.now }))) }
+    ensures found { OnOk result (AreChanges task.now.groups.now task.now.all.now
+        found.new.items) }
 {
     let close = close_by(task.spans, from, row);
     if close.stop >= u64::from(task.cycles) {
         return Ok(());
     }
-    let left = lines_in(task.all, from);
-    let closing = rows_changed(alloc, task.groups, from, row.to, left)?;
-    let writes = program_by(alloc, task, from, row.to, &closing)?;
-    push_switching(list, &close, &closing, &writes, task.cycles)
-}
-
-// The writes of a switch that closes these channels.
-fn program_by(
-    alloc: Global,
-    task: &Task,
-    from: UseId,
-    to: UseId,
-    closing: &[ChannelRow],
-) -> Result<Vec<Write>, NoMemory>
-    requires from { from.0 < length task.now.groups.now.uses }
-    requires to { to.0 < length task.now.groups.now.uses }
-    ensures { IfOk result (λ writes. writes.items ≡ program_of closing.now
-        (changed_rows task.now.groups.now from.0 to.0 (lines_at task.now.all.now to.0))) }
-{
-    let entered = lines_in(task.all, to);
-    let opening = rows_changed(alloc, task.groups, from, to, entered)?;
-    program(alloc, closing, &opening)
-}
-
-// The rows of those lines which a switch doesn't keep.
-fn rows_changed(
-    alloc: Global,
-    groups: &Groups,
-    from: UseId,
-    to: UseId,
-    lines: &[Line],
-) -> Result<Vec<ChannelRow>, NoMemory>
-    requires from { from.0 < length groups.now.uses }
-    requires to { to.0 < length groups.now.uses }
-    ensures { IfOk result (λ rows. rows.items
-        ≡ changed_rows groups.now from.0 to.0 lines.now) }
-{
-    let mut rows = Vec::with_capacity(alloc, lines.len())?;
-    for line in lines {
-        if !groups.kept(from, to, line.row.channel.conn) {
-            rows.push(line.row)?;
-        }
+    if let Some(change) = change_among(task, found, from, row.to) {
+        return push_change(list, &close, change, task.cycles);
     }
-    Ok(rows)
+    let change = change_of(alloc, task, from, row.to)?;
+    push_change(list, &close, &change, task.cycles)?;
+    found.push(change)?;
+    Ok(())
+}
+
+// Appends the events of a switch that so closes channels, and changes this.
+fn push_change(
+    list: &mut TimedEvents,
+    close: &Close,
+    change: &Change,
+    end: u32,
+) -> Result<(), NoMemory>
+    ensures { OnOk result (list.new ≡ list.old ++ within end
+        (switching_events close.now change.now.closing.items change.now.writes.items)) }
+{
+    push_switching(list, close, &change.closing, &change.writes, end)
 }
 
 // The writes that load the first use case.

@@ -18,8 +18,8 @@ loaded_of-requires c =
     rw (c.rows-rows.ensures, c.switches.ensures, c.requires.lines, entered-are inputs accepted)
     (rows-known inputs accepted)
 
-pub timed_events-requires : goal.timed_events-requires
-timed_events-requires c =
+pub timed_events-requires-clause-rows : goal.timed_events-requires-clause-rows
+timed_events-requires-clause-rows c =
     let inputs = c.args.inputs.now in
     rw (c.rows-rows.ensures, c.switches.ensures, c.requires.groups)
     (rows-known inputs c.are_accepted.ensures)
@@ -30,8 +30,8 @@ windows_of-requires c =
     rw (c.rows-rows.ensures, c.switches.ensures, c.requires.groups)
     (rows-known inputs c.are_accepted.ensures)
 
-pub session_starts_of-requires : goal.session_starts_of-requires
-session_starts_of-requires c =
+pub session_starts_of-requires-clause-rows : goal.session_starts_of-requires-clause-rows
+session_starts_of-requires-clause-rows c =
     let inputs = c.args.inputs.now in
     rw (c.rows-rows.ensures, c.switches.ensures, c.requires.groups)
     (rows-are inputs c.are_accepted.ensures)
@@ -50,7 +50,7 @@ returns c =
     let spans = (run_of inputs).spans in
     rw (
       c.in_ok-loaded.ensures,
-      c.in_ok-timed.ensures,
+      c.in_ok-timed.ensures.events,
       c.in_ok-session_starts.ensures,
       c.in_ok-windows.ensures,
       c.in_ok-rooms.ensures,

@@ -13,7 +13,7 @@ push_opened-requires-clause-rows c =
     rw (list-from first.later.now place (record { cycle = 0; to = record { 0 = 0 }; drain = 0 })
     c.loop-place-test.true)
     (entered-from (length c.args.task.now.groups.now.uses) first.entered.now
-    (first.row.now ∷ first.later.now) (suc place) c.requires)
+    (first.row.now ∷ first.later.now) (suc place) c.requires.rows)
 
 -- One switch more.
 pub loop-place-preserved : goal.loop-place-preserved
@@ -23,10 +23,11 @@ loop-place-preserved c =
     let place = c.loop-place.place in
     let default : SwitchRow = record { cycle = 0; to = record { 0 = 0 }; drain = 0 } in
     record {
-      from = c.requires.rows_are.known (suc place) default (omega (arith, c.loop-place-test.true));
+      from = c.requires.rows.rows_are.known (suc place) default (omega (arith, c.loop-place-test.true));
+      found = c.in_ok-push_opened.ensures.found;
       session_starts =
           session_starts-next task.groups.now task.spans.now task.all.now task.words.now task.cycles
           c.loop-place.from.0 place later default
           (session_starts_at task.all.now c.loop-place.list.items) _ c.loop-place-test.true
-          c.in_ok-push_opened.ensures ∙ c.loop-place.invariant.session_starts;
+          c.in_ok-push_opened.ensures.session_starts ∙ c.loop-place.invariant.session_starts;
     }

@@ -5,8 +5,8 @@ use Rattle.aeth_scheduling.{specs.Made.changed_rows, proofs.Within.switch-late}
 use Rattle.aeth_scheduling.proofs.switching.push_switch.Goals as goal
 
 -- The switch lies past the end.
-pub returns-then-close-from : goal.returns-then-close-from
-returns-then-close-from c =
+pub returns-then-close-from-clause-events : goal.returns-then-close-from-clause-events
+returns-then-close-from-clause-events c =
     let groups = c.args.task.now.groups.now in
     let all = c.args.task.now.all.now in
     let close = close_by c.args.task.now.spans.now
@@ -21,16 +21,3 @@ returns-then-close-from c =
           (omega (arith, stop, end, late)) (omega arith),
       append-nil c.args.list.now,
     ) refl
-
--- Else its channels close, and its writes are made.
-pub returns : goal.returns
-returns c =
-    rw (
-      c.close_by-close.ensures,
-      c.deref-2.ensures.value,
-      c.deref-3.ensures.value,
-      c.in_ok-writes.ensures,
-      c.deref.ensures.value,
-      c.in_ok-closing.ensures,
-      c.lines_in-left.ensures,
-    ) at c.push_switching.ensures

@@ -1,6 +1,6 @@
 use Rattle.std.proofs.Common.{◌≡◌, take}
 use Rattle.aeth_scheduling.specs.Made.{changed_rows}
-use Rattle.aeth_scheduling.proofs.switching.rows_changed.Given as goal
+use Rattle.aeth_scheduling.proofs.changes.rows_changed.Given as goal
 
 -- The rows so far.
 abbrev pub invariant-loop-line : goal.invariant-loop-line
