@@ -284,7 +284,8 @@ build() {
 }
 
 built=$home/crates/aeth/out/aeth
-mkdir -p "$out" && : >"$log" || give_up "there is no folder $out to build in"
+# (`true` and no `:`, with which a file that can't be made would end this shell)
+{ mkdir -p "$out" && true >"$log"; } 2>/dev/null || give_up "nothing can be written in $out, where the program is built"
 note_sources
 find_cache
 

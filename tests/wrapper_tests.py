@@ -251,6 +251,16 @@ class Builds(WithHome):
         self.main.write_text("main\n")
         self.assertEqual(self.home.run("a")[:2], (3, "main base middle : a\n"))
 
+    def test_no_folder_to_build_in(self):
+        """`out` is a file, or a folder in which nobody can make one."""
+        out = self.home.top / "out"
+        for make in (lambda: out.write_text(""), lambda: out.symlink_to("/proc")):
+            make()
+            status, told, said = self.home.run("a")
+            self.assertEqual((status, told, said.count("\n")), (126, "", 1))
+            self.assertIn("out, where the program is built, so nothing was run", said)
+            out.unlink()
+
     def test_there_is_no_rt(self):
         path = ":".join(folder for folder in os.environ["PATH"].split(":") if not os.access(f"{folder}/rt", os.X_OK))
         status, out, said = self.home.run("a", PATH=path)
